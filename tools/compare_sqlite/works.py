@@ -47,16 +47,16 @@ def filled(form, size):
 
 
 WORKS = {
-    "saves": Work(f"{SAVES} 500", f"{BY_500} --indexes 1", "", ("0.5", "1.2")),
-    "short": Work(f"{SAVES} 10", f"{BY_10} --clients 1", "", ("0.6", "1.2")),
-    "turns": Work(f"{SAVES} 10, by 16 clients in turn", f"{BY_10} --clients 16", "", ("0.6", "1.2")),
-    "together": Work(f"{SAVES} 10, 16 open together", f"{BY_10} --clients 16 --together", "", ("0.6", "1.2")),
-    "loads": Work("loads in transactions of 500", f"{BY_500} --numbers", "--loads {size}", ("0.25", "1.3")),
-    "writes": Work("saves with a load after each, in transactions of 5,000", BY_5000, "", ("0.45", "")),
+    "saves": Work(f"{SAVES} 500", f"{BY_500} --indexes 1", "", ("0.45", "1.2")),
+    "short": Work(f"{SAVES} 10", f"{BY_10} --clients 1", "", ("0.45", "1.2")),
+    "turns": Work(f"{SAVES} 10, by 16 clients in turn", f"{BY_10} --clients 16", "", ("0.45", "1.2")),
+    "together": Work(f"{SAVES} 10, 16 open together", f"{BY_10} --clients 16 --together", "", ("0.45", "1.2")),
+    "loads": Work("loads in transactions of 500", f"{BY_500} --numbers", "--loads {size}", ("0.2", "1.3")),
+    "writes": Work("saves with a load after each, in transactions of 5,000", BY_5000, "", ("0.3", "")),
     "queries": Work("queries of 10 rows along an index", f"{BY_500} --numbers --indexes 1 --values {{tenth}}",
-                    f"--queries {QUERIES}", ("0.5", "1.2"), f"{QUERIES:,} over {{size:,}}"),
+                    f"--queries {QUERIES}", ("0.6, 0.8 at 64,000", "1.2"), f"{QUERIES:,} over {{size:,}}"),
     "whole": Work("queries of the whole type", f"{BY_500} --numbers --indexes 1", f"--whole {WHOLE_QUERIES}",
-                  ("0.5", "1.2"), f"{WHOLE_QUERIES} over {{size:,}}"),
-    "memory": Work(f"peak of memory of {SAVES} 500", f"{BY_500} --indexes 1", "", ("80 MB at 64,000", ""),
+                  ("0.45", "1.2"), f"{WHOLE_QUERIES} over {{size:,}}"),
+    "memory": Work(f"peak of memory of {SAVES} 500", f"{BY_500} --indexes 1", "", ("60 MB at 64,000", ""),
                    is_memory=True),
 }

@@ -125,7 +125,7 @@ class Crew:
             for edit in self.edits.get(task.name, []):
                 self.judge(task.name, edit.name, Verdict.UNTRIED, "")
         if self.late:
-            self.say(f"{len(self.late)} aged edits weren't begun in time: left for another run")
+            self.say(f"{len(self.late)} aged edits have no verdict in time: left for another run")
 
     def places(self):
         """How many checks are made at a time: as many as are asked for, or one a processor once `rt ci` has ended."""

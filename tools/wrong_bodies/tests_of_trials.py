@@ -42,7 +42,7 @@ class ByTheProver(unittest.TestCase):
             "1 edits: 1 fresh, 0 aged, 0 changed; 0 are tried, 0 of them aged",
             *2 * ["1 edits: 0 fresh, 1 aged, 0 changed; 1 are tried, 1 of them aged"]])
         # where there is no time for it, it is left, and said to be
-        self.assertEqual((left[0], left[1][1:]), (0, ["1 aged edits weren't begun in time: left for another run",
+        self.assertEqual((left[0], left[1][1:]), (0, ["1 aged edits have no verdict in time: left for another run",
                                                       "1 refused, 0 not"]))
 
     def test_over_what_rt_ci_proves(self):

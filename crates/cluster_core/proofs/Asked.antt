@@ -1,5 +1,5 @@
 -- The cause against a request, from the segments of what earlier ones wrote to which an owner agrees.
-use Rattle.std.proofs.Common.{◌≡◌, ℕ, zero, ◌+◌, ◌-◌, ◌<◌, ◌≤◌, true, false, cond, nat_lt, Option, None, Some, List, [], ◌∷◌, length, drop, get_or, inl, inr, refl, sym, ap, ◌∙◌, arith}
+use Rattle.std.proofs.Common.{◌≡◌, ℕ, zero, ◌+◌, ◌-◌, ◌^◌, ◌<◌, ◌≤◌, true, false, cond, nat_lt, Option, None, Some, List, [], ◌∷◌, length, drop, get_or, inl, inr, refl, sym, ap, subst, ◌∙◌, arith}
 use Rattle.std.proofs.Math.Logic.{∥∥₁_elim}
 use Rattle.std.proofs.lemmas.Bool.{cases_Bool, cases_order, false≢true, ltb-true, ltb-false, not_from_false, or_cases, or_left, or_right}
 use Rattle.std.specs.List.{list_any, slice_get}
@@ -7,16 +7,17 @@ use Rattle.std.specs.Option.{option_map, option_map_or, option_or}
 use Rattle.kv_core.specs.Change.{write_ranges}
 use Rattle.kv_core.specs.Range.{KeyRange, contains, covers}
 use Rattle.kv_core.specs.declared.change.CommitRequest.{CommitRequest}
+use Rattle.cluster_core.specs.Cuts.{contains-cut, cut_has}
 use Rattle.cluster_core.specs.History.{Entry}
 use Rattle.cluster_core.specs.Decision.{Owned, Cause, agrees, cut, first_disturbed, meets_within, newer_agreed, numbered, owns, seen_in, writes_in}
-use Rattle.cluster_core.specs.Kept.{KnowsKeys, agreed_at, least_of, since, writes_key}
+use Rattle.cluster_core.specs.Kept.{FindsNewest, KnowsKeys, KnowsWriters, WritersState, agreed_at, least_of, since, writes_key}
 use Rattle.cluster_core.specs.Laws.{Counts, IsNewestIn, IsUnwritten, ReadsBelow}
 use Rattle.cluster_core.specs.Progress.{answer_of}
 use Rattle.cluster_core.specs.Segments.{IsNewestOver}
 use Rattle.cluster_core.proofs.Bridge.{at_place, entry_of, in_from, numbered_at, version_at}
 use Rattle.cluster_core.proofs.Causes.{Contains-from}
 use Rattle.cluster_core.proofs.ExactCauses.{none_from, seen_from, writer_in}
-use Rattle.cluster_core.proofs.Ownership.{contains-cut, cut_has, list_any-weaker, meets_within-from, meets_within-gives}
+use Rattle.cluster_core.proofs.Ownership.{list_any-weaker, meets_within-from, meets_within-gives}
 use Rattle.cluster_core.proofs.Places.{drop_item}
 use Rattle.cluster_core.proofs.InOrder.{Key, Run, nothing_is, only_one}
 use Rattle.cluster_core.proofs.Versions.{rising-numbered}
@@ -33,6 +34,10 @@ request_at start requests n e there = by (slice_get requests n) refl
 pub least_is_at : (start : ℕ) (requests : List CommitRequest) (place : ℕ) (entry : Entry) → slice_get (numbered start requests) place ≡ Some entry →
     least_of start requests place ≡ entry.request.read_version - start
 least_is_at start requests place entry here = ap (λ o. option_map_or (λ (q : CommitRequest). q.read_version - start) o zero) (request_at start requests place entry here)
+
+pub least_at_place : (start : ℕ) (requests : List CommitRequest) (place : ℕ) (request : CommitRequest) → place < length requests → request ≡ get_or requests place request →
+    least_of start requests place ≡ request.read_version - start
+least_at_place start requests place request inside is = ap (λ o. option_map_or (λ (q : CommitRequest). q.read_version - start) o zero) (at_place requests place request inside is)
 
 -- ranges that write in another one write a key of it that is the owner's
 written_key : (owner : Owned) (range : KeyRange) (ws : List KeyRange) → list_any (λ write. meets_within owner write range) ws ≡ true →
@@ -229,3 +234,19 @@ before_place owner start requests from before upto segments range low n newest k
 pub same_request : (start : ℕ) (requests : List CommitRequest) (place : ℕ) (request : CommitRequest) (entry : Entry) → place < length requests → request ≡ get_or requests place request →
     slice_get (numbered start requests) place ≡ Some entry → request ≡ entry.request
 same_request start requests place request entry inside is here = only_one (sym (at_place requests place request inside is) ∙ request_at start requests place entry here)
+
+-- what was found of a range by one that asks as far back as the request at a place
+pub asked_newest : (owner : Owned) (start : ℕ) (requests : List CommitRequest) (place least : ℕ) (request : CommitRequest) (writers : WritersState) (range : KeyRange) (newest : Option ℕ) →
+    place < length requests → request ≡ get_or requests place request → least ≡ request.read_version - start →
+    (KnowsWriters owner start requests least place writers → FindsNewest owner start requests least place range newest) →
+    KnowsWriters owner start requests (least_of start requests place) place writers → FindsNewest owner start requests (least_of start requests place) place range newest
+asked_newest owner start requests place least request writers range newest inside is asks finds known =
+    let same : least_of start requests place ≡ least = least_at_place start requests place request inside is ∙ sym asks in
+    subst (λ n. FindsNewest owner start requests n place range newest) (sym same) (finds (subst (λ n. KnowsWriters owner start requests n place writers) same known))
+
+-- and the version after its place fits
+pub seen_fits : (owner : Owned) (start : ℕ) (requests : List CommitRequest) (least low place n : ℕ) (range : KeyRange) (newest : Option ℕ) →
+    FindsNewest owner start requests least place range newest → Some n ≡ since low newest → place < length requests → start + length requests < 2 ^ 64 → start + n + 1 < 2 ^ 64
+seen_fits owner start requests least low place n range newest found some inside fits =
+    let before = before_place owner start requests least place place found.segments (cut owner range) low n newest found.knows found.over some in
+    omega (arith, before, fits, inside)

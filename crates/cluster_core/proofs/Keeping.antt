@@ -1,5 +1,5 @@
 -- What a resolver and a log keep, after one step of a role.
-use Rattle.std.proofs.Common.{◌≡◌, ℕ, zero, suc, ◌+◌, ◌-◌, ◌<◌, ◌≤◌, Bool, true, false, nat_le, not, is_none, Option, None, Some, List, [], ◌∷◌, ◌++◌, drop, length, set, inl, inr, refl, sym, ap, subst, ◌∙◌, arith}
+use Rattle.std.proofs.Common.{◌≡◌, ℕ, zero, suc, ◌+◌, ◌-◌, ◌<◌, ◌≤◌, Bool, true, false, max, nat_le, not, is_none, Option, None, Some, List, [], ◌∷◌, ◌++◌, drop, length, set, inl, inr, refl, sym, ap, subst, ◌∙◌, arith}
 use Rattle.std.proofs.lemmas.Bool.{and_from, and_parts, cases_order}
 use Rattle.std.proofs.lemmas.List.{length_push, length-set}
 use Rattle.std.proofs.lemmas.Option.{slice_get_within}
@@ -10,7 +10,7 @@ use Rattle.kv_core.specs.Range.{covers}
 use Rattle.kv_core.specs.declared.change.CommitRequest.{CommitRequest}
 use Rattle.cluster_core.specs.History.{Entry, until}
 use Rattle.cluster_core.specs.Decision.{Cause, Owned, agreed_above, agrees, disturbs, earlier, first_disturbed, is_committed, numbered}
-use Rattle.cluster_core.specs.Kept.{KeepsRecent, KnowsWriters, WritersState, agreed_at, rise_between, writes_key}
+use Rattle.cluster_core.specs.Kept.{KeepsRecent, KeptWrites, KnowsWrites, KnowsWriters, WritersState, agreed_at, rise_between, writes_key}
 use Rattle.cluster_core.specs.Progress.{ResolverState, IsResolver, IsLog, answer_of, forgets, tells}
 use Rattle.cluster_core.specs.Requests.{RequestList}
 use Rattle.cluster_core.proofs.Bridge.{entry_here, version_at}
@@ -108,10 +108,10 @@ module _ (owner : Owned) (start : ℕ) (requests : List CommitRequest) (q : Comm
       and_from (agreed_at owner start more_requests p) (list_all (agreed_at owner start more_requests) ps) (agreed_same p (omega (arith, below, within)) ∙ a.0)
       (all_same (p + 1) upto ps within r.1 a.1)
 
-  known_submitted : (least upto : ℕ) (writers : WritersState) → upto ≤ length requests → KnowsWriters owner start requests least upto writers →
-      KnowsWriters owner start more_requests least upto writers
-  known_submitted least upto writers within was =
-      let ordered = rise_le writers.ordered upto writers.pending was.in_order in
+  writes_submitted : (least upto : ℕ) (writes : KeptWrites) → upto ≤ length requests → KnowsWrites owner start requests least upto writes →
+      KnowsWrites owner start more_requests least upto writes
+  writes_submitted least upto writes within was =
+      let ordered = rise_le writes.ordered upto writes.pending was.in_order in
       record {
         keys = record {
           sound = λ key place h.
@@ -123,9 +123,16 @@ module _ (owner : Owned) (start : ℕ) (requests : List CommitRequest) (q : Comm
               (sym (writes_same place key (omega (arith, before, ordered, within))) ∙ wrote);
         };
         in_order = was.in_order;
-        agreed = all_same writers.ordered upto writers.pending within was.in_order was.agreed;
+        agreed = all_same writes.ordered upto writes.pending within was.in_order was.agreed;
         waiting = λ place from past before agreed. was.waiting place from past before (sym (agreed_same place (omega (arith, before, within))) ∙ agreed);
       }
+
+  known_submitted : (least upto : ℕ) (writers : WritersState) → upto ≤ length requests → KnowsWriters owner start requests least upto writers →
+      KnowsWriters owner start more_requests least upto writers
+  known_submitted least upto writers within was = record {
+    ranges = writes_submitted least upto writers.ranges within was.ranges;
+    points = writes_submitted (max least writers.whole_from) upto writers.points within was.points;
+  }
 
 -- one more request changes nothing of what a resolver keeps
 pub resolver_submitted : (window start : ℕ) (requests : List CommitRequest) (q : CommitRequest) (reported : ℕ) (resolver : ResolverState) →

@@ -33,9 +33,11 @@ pub mod Balanced
 pub mod Segmented
 pub mod Overlaid
 pub mod Dropped
+pub mod PointSegments
 pub mod Rising
 pub mod Recent
 pub mod Putting
+pub mod Noting
 pub mod Asked
 pub mod Waiting
 pub mod Links

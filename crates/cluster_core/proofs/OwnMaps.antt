@@ -13,6 +13,7 @@ use Rattle.kv_core.specs.declared.change.Mutation.{Mutation}
 use Rattle.kv_core.specs.declared.change.Mutation.TheVariants.{Set, ClearRange, Add, CompareAndClear}
 use Rattle.kv_core.proofs.Changes.{get-after, get-compared, get-kept, get-set, same_maps}
 use Rattle.kv_core.proofs.Order.{contains-point, tied_keys}
+use Rattle.cluster_core.specs.Cuts.{has_keys-own}
 use Rattle.cluster_core.specs.Decision.{Owned, cut, owns}
 use Rattle.cluster_core.specs.Tier.{part}
 use Rattle.cluster_core.proofs.Ownership.{meets_within-from, meets_within-point}
@@ -24,10 +25,6 @@ either_way false x = refl
 
 common-self : (r : KeyRange) → common r r ≡ r
 common-self r = λ i. record { begin = either_way (key_lt r.begin r.begin) r.begin i; end = either_way (key_lt r.end r.end) r.end i }
-
--- an owner has keys of a range where it owns one of them
-pub has_keys-own : (owner : Owned) (r : KeyRange) (k : List ℕ) → owns owner k ≡ true → contains r k ≡ true → has_keys (cut owner r) ≡ true
-has_keys-own owner r k own h = ap (λ x. has_keys (cut owner x)) (sym (common-self r)) ∙ meets_within-from owner r r k own h h
 
 -- an owner has keys of a point where it owns the key
 pub owns-point : (owner : Owned) (k : List ℕ) → owns owner k ≡ has_keys (cut owner (point k))

@@ -15,7 +15,7 @@ use Rattle.cluster_core.specs.Configuration.{is_rising_above}
 use Rattle.cluster_core.specs.Decision.{Owned, owners, owners_from, owns}
 use Rattle.cluster_core.specs.Server.{IsServer, IsTier, owner_of, server_state}
 use Rattle.cluster_core.specs.Tier.{TierState, first_refusal, map_of, part, refusal, refusal_of, whole_map}
-use Rattle.cluster_core.specs.declared.answers.ReadError.{ReadError}
+use Rattle.kv_core.specs.declared.snapshot.ReadError.{ReadError}
 use Rattle.cluster_core.specs.declared.server.Server.{Server}
 use Rattle.cluster_core.proofs.Ownership.{unowned_below}
 use Rattle.cluster_core.proofs.OwnMaps.{none_elsewhere, owns-point}

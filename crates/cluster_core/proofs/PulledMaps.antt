@@ -11,17 +11,18 @@ use Rattle.kv_core.specs.Range.{KeyRange, contains, has_keys}
 use Rattle.kv_core.specs.Read.{limited, read_of}
 use Rattle.kv_core.specs.declared.change.Mutation.{Mutation}
 use Rattle.kv_core.proofs.Changes.{get-kept, pairs_in-same}
+use Rattle.cluster_core.specs.Cuts.{has_keys-own}
 use Rattle.cluster_core.specs.Cluster.{ClusterState, database_at, maps_back, server_at, servers_at, tier_of}
 use Rattle.cluster_core.specs.Decision.{Owned, cut, log, owners, owns}
 use Rattle.cluster_core.specs.History.{map_at}
 use Rattle.cluster_core.specs.Roles.{PipelineState, entries as requested, history}
 use Rattle.cluster_core.specs.Server.{maps_down}
 use Rattle.cluster_core.specs.Tier.{Makes, absorb, first_refusal, map_of, part, refusal, refusal_of, whole_map}
-use Rattle.cluster_core.specs.declared.answers.ReadError.{ReadError}
-use Rattle.cluster_core.specs.declared.answers.ReadError.TheVariants.{FutureVersion, TooOld}
+use Rattle.kv_core.specs.declared.snapshot.ReadError.{ReadError}
+use Rattle.kv_core.specs.declared.snapshot.ReadError.TheVariants.{FutureVersion, TooOld}
 use Rattle.cluster_core.proofs.LogMaps.{empty_before, log_makes_history}
 use Rattle.cluster_core.proofs.Ownership.{some_owner}
-use Rattle.cluster_core.proofs.OwnMaps.{has_keys-own, none_elsewhere, own-map_of, part-part}
+use Rattle.cluster_core.proofs.OwnMaps.{none_elsewhere, own-map_of, part-part}
 use Rattle.cluster_core.proofs.ServerMaps.{down_at, down_first, down_past, take_down}
 use Rattle.cluster_core.proofs.StorageMaps.{either, find-append, part-after_all, part-empty}
 

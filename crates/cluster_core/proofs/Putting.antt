@@ -110,7 +110,7 @@ each_skipped owner requests least places i place old now inside here early so = 
 
 pub each_more : (owner : Owned) (requests : List CommitRequest) (least : ℕ) (places : List ℕ) (i place : ℕ) (old now next : Run) →
     rise_between 0 (length requests) places ≡ true → i < length places → place ≡ get_or places i 0 → Overlays (writes_key requests place) place now next →
-    ((key : Key) → owns owner key ≡ true → writes_key requests place key ≡ true → IsCovered next key place) →
+    (least ≤ place → (key : Key) → owns owner key ≡ true → writes_key requests place key ≡ true → IsCovered next key place) →
     EachSo owner requests least places i old now → EachSo owner requests least places (i + 1) old next
 each_more owner requests least places i place old now next rising inside here overlays covered so = record {
   puts = each_over requests places i place old now next inside here overlays so.puts;
@@ -120,6 +120,6 @@ each_more owner requests least places i place old now next rising inside here ov
         overlays.kept key at (omega (arith, earlier, here)) (so.covered key at from before own wrote)
     | inr now' ↦
         let same : at ≡ place = eqb-true at (get_or places i 0) now' ∙ sym here in
-        subst (IsCovered next key) (sym same) (covered key own (subst (λ p. writes_key requests p key ≡ true) same wrote))
+        subst (IsCovered next key) (sym same) (covered (omega (arith, same, from)) key own (subst (λ p. writes_key requests p key ≡ true) same wrote))
   ];
 }

@@ -3,7 +3,7 @@ use Rattle.std.proofs.Common.{◌≡◌, ℕ, ◌+◌, ◌-◌, ◌<◌, ◌≤�
 use Rattle.std.proofs.lemmas.Bool.{cases_Bool, eqb-true, false≢true, leb-true, or_cases, or_left, or_right}
 use Rattle.std.specs.List.{filter}
 use Rattle.kv_core.specs.declared.change.CommitRequest.{CommitRequest}
-use Rattle.cluster_core.specs.Kept.{KeepsRecent, PutsEach, WritersState, has_place, no_writers}
+use Rattle.cluster_core.specs.Kept.{KeepsFrom, KeepsRecent, KeptWrites, PutsEach, WritersState, has_place, no_writers, waits_too, with_waiting}
 use Rattle.cluster_core.specs.Segments.{SegmentHolds}
 use Rattle.cluster_core.proofs.InOrder.{Key, Run, nothing_is}
 
@@ -34,49 +34,55 @@ had_push (p ∷ ps) n q has = elim (or_cases (nat_eq q p) (has_place (ps ++ n �
   | inr later ↦ elim (had_push ps n q later) [ inl before ↦ inl (or_right (nat_eq q p) (has_place ps q) before) | inr now ↦ inr now ]
 ]
 
--- what waits was put in order, in part or whole
-pub recent_some : (window upto ordered dropped : ℕ) (pending : List ℕ) (old : Run) (requests : List CommitRequest) (new : Run) → PutsEach requests pending old new →
-    KeepsRecent window upto (record { segments = old; ordered = ordered; pending = pending; dropped = dropped }) →
-    KeepsRecent window upto (record { segments = new; ordered = ordered; pending = pending; dropped = dropped })
-recent_some window upto ordered dropped pending old requests new puts was = record {
-  held = λ key place h. elim (puts.holds key place h) [ inl before ↦ was.held key place before | inr wrote ↦ was.waiting place wrote.0 ];
-  waiting = was.waiting;
-  passed = was.passed;
-  within = was.within;
-}
+-- what waits was put in order or noted, in part or whole
+module _ (dropped ordered : ℕ) (pending : List ℕ) (old : Run) (requests : List CommitRequest) (new : Run) (puts : PutsEach requests pending old new)
+    (was : KeepsFrom dropped (record { segments = old; ordered = ordered; pending = pending })) where
+  pub from_some : KeepsFrom dropped (record { segments = new; ordered = ordered; pending = pending })
+  from_some = record {
+    held = λ key place h. elim (puts.holds key place h) [ inl before ↦ was.held key place before | inr wrote ↦ was.waiting place wrote.0 ];
+    waiting = was.waiting;
+  }
 
-pub recent_whole : (window upto ordered next dropped : ℕ) (pending : List ℕ) (old : Run) (requests : List CommitRequest) (new : Run) → PutsEach requests pending old new →
-    KeepsRecent window upto (record { segments = old; ordered = ordered; pending = pending; dropped = dropped }) →
-    KeepsRecent window upto (record { segments = new; ordered = next; pending = []; dropped = dropped })
-recent_whole window upto ordered next dropped pending old requests new puts was =
-    let put = recent_some window upto ordered dropped pending old requests new puts was in
-    record { held = put.held; waiting = λ place has. absurd (false≢true has); passed = put.passed; within = put.within }
+  pub from_whole : (next : ℕ) → KeepsFrom dropped (record { segments = new; ordered = next; pending = [] })
+  from_whole next = record { held = from_some.held; waiting = λ place has. absurd (false≢true has) }
+
+-- the same of one side of what is kept
+pub recent_ranges : (window upto : ℕ) (writers : WritersState) (ranges : KeptWrites) → KeepsFrom writers.dropped ranges → KeepsRecent window upto writers →
+    KeepsRecent window upto (record writers { ranges = ranges })
+recent_ranges window upto writers ranges now was = record { ranges = now; points = was.points; passed = was.passed; within = was.within }
+
+pub recent_points : (window upto whole_from : ℕ) (writers : WritersState) (points : KeptWrites) → KeepsFrom writers.dropped points → KeepsRecent window upto writers →
+    KeepsRecent window upto (record writers { points = points; whole_from = whole_from })
+recent_points window upto whole_from writers points now was = record { ranges = was.ranges; points = now; passed = was.passed; within = was.within }
 
 -- what is old was dropped, up to where the window begins
-pub recent_dropped : (window upto next ordered least : ℕ) (pending : List ℕ) (new : Run) → least ≡ upto - window → upto ≤ next → next ≤ upto + 1 →
-    ((key : Key) (place : ℕ) → SegmentHolds new key place → least ≤ place) →
-    KeepsRecent window next (record { segments = new; ordered = ordered; pending = filter (nat_le least) pending; dropped = least })
-recent_dropped window upto next ordered least pending new is low high recent = record {
-  held = recent;
-  waiting = λ place has. had_filter least pending place has;
-  passed = omega (arith, is, low);
-  within = omega (arith, is, high);
-}
+pub from_dropped : (least ordered : ℕ) (pending : List ℕ) (new : Run) → ((key : Key) (place : ℕ) → SegmentHolds new key place → least ≤ place) →
+    KeepsFrom least (record { segments = new; ordered = ordered; pending = filter (nat_le least) pending })
+from_dropped least ordered pending new recent = record { held = recent; waiting = λ place has. had_filter least pending place has }
+
+pub recent_dropped : (window upto next least whole_from : ℕ) (ranges points : KeptWrites) → least ≡ upto - window → upto ≤ next → next ≤ upto + 1 →
+    KeepsFrom least ranges → KeepsFrom least points → KeepsRecent window next (record { ranges = ranges; points = points; whole_from = whole_from; dropped = least })
+recent_dropped window upto next least whole_from ranges points is low high a b =
+    record { ranges = a; points = b; passed = omega (arith, is, low); within = omega (arith, is, high) }
 
 -- nothing is dropped before a window has passed
 pub recent_later : (window upto next least : ℕ) (writers : WritersState) → least ≡ upto - window → upto ≤ next → next ≤ upto + 1 → least - writers.dropped < window →
     KeepsRecent window upto writers → KeepsRecent window next writers
 recent_later window upto next least writers is low high soon was =
     let passed = was.passed in
-    record { held = was.held; waiting = was.waiting; passed = omega (arith, passed, low); within = omega (arith, is, high, soon, passed) }
+    record { ranges = was.ranges; points = was.points; passed = omega (arith, passed, low); within = omega (arith, is, high, soon, passed) }
 
 -- one more request, which waits
-pub recent_push : (window place next ordered dropped : ℕ) (pending : List ℕ) (segments : Run) → place ≤ next → next ≤ place + 1 →
-    dropped ≤ place → KeepsRecent window next (record { segments = segments; ordered = ordered; pending = pending; dropped = dropped }) →
-    KeepsRecent window next (record { segments = segments; ordered = ordered; pending = pending ++ place ∷ []; dropped = dropped })
-recent_push window place next ordered dropped pending segments low high from was = record {
+from_push : (dropped place : ℕ) (writes : KeptWrites) → dropped ≤ place → KeepsFrom dropped writes → KeepsFrom dropped (with_waiting place writes)
+from_push dropped place writes from was = record {
   held = was.held;
-  waiting = λ at has. elim (had_push pending place at has) [ inl before ↦ was.waiting at before | inr now ↦ omega (arith, now, from) ];
+  waiting = λ at has. elim (had_push writes.pending place at has) [ inl before ↦ was.waiting at before | inr now ↦ omega (arith, now, from) ];
+}
+
+pub recent_push : (window place next : ℕ) (writers : WritersState) → writers.dropped ≤ place → KeepsRecent window next writers → KeepsRecent window next (waits_too place writers)
+recent_push window place next writers from was = record {
+  ranges = from_push writers.dropped place writers.ranges from was.ranges;
+  points = from_push writers.dropped place writers.points from was.points;
   passed = was.passed;
   within = was.within;
 }
@@ -84,8 +90,8 @@ recent_push window place next ordered dropped pending segments low high from was
 -- where nothing is kept all of it is recent
 pub nothing_old : (window : ℕ) → KeepsRecent window 0 no_writers
 nothing_old window = record {
-  held = λ key place h. absurd (nothing_is h.stands);
-  waiting = λ place has. absurd (false≢true has);
+  ranges = record { held = λ key place h. absurd (nothing_is h.stands); waiting = λ place has. absurd (false≢true has) };
+  points = record { held = λ key place h. absurd (nothing_is h.stands); waiting = λ place has. absurd (false≢true has) };
   passed = omega arith;
   within = omega arith;
 }

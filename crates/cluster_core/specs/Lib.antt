@@ -5,11 +5,15 @@ pub mod Serial
 pub mod Roles
 pub mod Requests
 pub mod Tier
+pub mod Refusing
+pub mod Cuts
+pub mod Narrowing
 pub mod Configuration
 pub mod Cluster
 pub mod Segments
 pub mod Tree
 pub mod TreeNode
+pub mod Points
 pub mod Kept
 pub mod Progress
 pub mod Server

@@ -3,7 +3,6 @@
 ghost use Rattle.std.specs.Prelude.{◌≡◌, IfOk, IsNone};
 ghost use Rattle.cluster_core.specs.Configuration.{config_refusal, single};
 ghost use Rattle.cluster_core.specs.declared.answers.ConfigError.TheVariants.{Memory as ConfigMemory};
-ghost use Rattle.cluster_core.specs.declared.answers.ReadError.TheVariants.{Memory};
 ghost use Rattle.cluster_core.specs.declared.answers.SubmitError.TheVariants.{Memory as SubmitMemory};
 
 use kv_core::{Bytes, KeyRange};
@@ -116,20 +115,6 @@ pub enum SubmitError {
     Memory,
 }
 
-/// Why a read isn't answered.
-#[derive(Clone, Copy, Debug, PartialEq, Eq, Error)]
-pub enum ReadError {
-    /// The version isn't there yet.
-    #[error("the version isn't there yet")]
-    FutureVersion,
-    /// The version lies longer ago than the window allows.
-    #[error("the version lies too long ago")]
-    TooOld,
-    /// Memory ran out.
-    #[error("out of memory")]
-    Memory,
-}
-
 impl From<AllocError> for ConfigError {
     ghost from_gives = { λ _ e. e ≡ ConfigMemory };
 
@@ -143,14 +128,6 @@ impl From<AllocError> for SubmitError {
 
     fn from(_e: AllocError) -> SubmitError {
         SubmitError::Memory
-    }
-}
-
-impl From<AllocError> for ReadError {
-    ghost from_gives = { λ _ e. e ≡ Memory };
-
-    fn from(_e: AllocError) -> ReadError {
-        ReadError::Memory
     }
 }
 

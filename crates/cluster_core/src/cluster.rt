@@ -17,10 +17,10 @@ ghost use Rattle.cluster_core.specs.Roles.{resolve as with_resolved};
 ghost use Rattle.cluster_core.specs.Roles.{submit as with_submitted, submit_refusal, submitted};
 ghost use Rattle.cluster_core.specs.Tier.{refusal};
 
-use crate::answers::{Config, ConfigError, ReadError, Reported, SubmitError, Work};
+use crate::answers::{Config, ConfigError, Reported, SubmitError, Work};
 use crate::pipeline::{Pipeline, Ticket};
 use crate::tier::Tier;
-use kv_core::{Bytes, CommitRequest, KeyRange, Pair};
+use kv_core::{Bytes, CommitRequest, KeyRange, Pair, ReadError};
 use std::alloc::{AllocError, Global};
 use std::collections::VecDeque;
 use std::marker::Model;

@@ -1,23 +1,21 @@
 // The conflict check of a resolver, over what it keeps of earlier requests. Used by `resolver`; a
 // cause also by `pipeline`, which reports it.
-ghost use Rattle.std.specs.Prelude.{◌≡◌, ◌+◌, ◌-◌, ◌<◌, ◌≤◌, ◌^◌, List, ℕ, zero, IsTrue, IfOk};
-ghost use Rattle.std.specs.Prelude.{OnOk, OnErr, false, length, Option, slice_get, Some};
-ghost use Rattle.kv_core.specs.Change.{write_range, write_ranges};
-ghost use Rattle.kv_core.specs.Range.{contains, covers, point};
+ghost use Rattle.std.specs.Prelude.{◌≡◌, ◌+◌, ◌-◌, ◌<◌, ◌≤◌, ◌^◌, List, ℕ, IsTrue, IfOk};
+ghost use Rattle.std.specs.Prelude.{OnOk, OnErr, false, length, slice_get, Some};
 ghost use Rattle.kv_core.specs.declared.change.CommitRequest.{CommitRequest};
 ghost use Rattle.cluster_core.specs.History.{Entry};
-ghost use Rattle.cluster_core.specs.Decision.{cut, numbered, Owned, owns};
-ghost use Rattle.cluster_core.specs.Kept.{has_place, KeepsRecent, KnowsKeys, KnowsWriters, least_of};
-ghost use Rattle.cluster_core.specs.Kept.{no_writers, PutsEach, ReadsWithin, rise_between, since};
-ghost use Rattle.cluster_core.specs.Kept.{writes_key};
+ghost use Rattle.cluster_core.specs.Decision.{numbered, Owned};
+ghost use Rattle.cluster_core.specs.Kept.{FindsNewest, KeepsRecent, KnowsWriters};
+ghost use Rattle.cluster_core.specs.Kept.{least_of, MayAsk, no_writers, ReadsWithin, rise_between};
+ghost use Rattle.cluster_core.specs.Kept.{since, StandsAsBefore, waits_too};
 ghost use Rattle.cluster_core.specs.Laws.{ReadsBelow};
 ghost use Rattle.cluster_core.specs.Progress.{answer_of};
-ghost use Rattle.cluster_core.specs.Segments.{IsCovered, IsNewestOver, Overlays};
 
 use crate::part::Part;
+use crate::points::Points;
 use crate::requests::Requests;
-use crate::segments::Segments;
-use kv_core::{Bytes, KeyRange, Mutation};
+use crate::segments::{Segments, put_each};
+use kv_core::KeyRange;
 use std::alloc::{AllocError, Global};
 use std::marker::Model;
 
@@ -36,154 +34,26 @@ impl Model for Cause {
     ghost view = { λ a. record { seen = a.seen; range = a.range } };
 }
 
-/// Puts a key under a place, if it is the owner's.
-fn put_key(
-    segments: &mut Segments,
-    part: &Part,
-    key: &Bytes,
-    place: usize,
-) -> Result<(), AllocError>
-    ensures overlays { Overlays (contains (point key.now)) place segments.old segments.new }
-    ensures covered { OnOk result ((own : List ℕ) → IsTrue (owns part.now own) →
-        IsTrue (contains (point key.now) own) → IsCovered segments.new own place) }
+/// The newest place, where it isn't before the least one.
+fn since(newest: Option<usize>, least: usize) -> Option<usize>
+    ensures { result ≡ since least newest }
 {
-    if !part.owns(key) {
-        return Ok(());
-    }
-    segments.put(key.copy()?, key.next()?, place)
-}
-
-/// Puts the keys that a mutation writes under a place, if any of them is the owner's.
-fn put_mutation(
-    segments: &mut Segments,
-    part: &Part,
-    mutation: &Mutation,
-    place: usize,
-) -> Result<(), AllocError>
-    ensures overlays { Overlays (contains (write_range mutation.now)) place segments.old segments.new }
-    ensures covered { OnOk result ((key : List ℕ) → IsTrue (owns part.now key) →
-        IsTrue (contains (write_range mutation.now) key) → IsCovered segments.new key place) }
-{
-    match mutation {
-        Mutation::Set { key, value: _ } => put_key(segments, part, key, place),
-        Mutation::Add { key, operand: _ } => put_key(segments, part, key, place),
-        Mutation::CompareAndClear { key, operand: _ } => put_key(segments, part, key, place),
-        Mutation::ClearRange(range) => if part.meets(range) {
-            segments.put(range.begin().copy()?, range.end().copy()?, place)
-        } else {
-            Ok(())
-        },
-    }
-}
-
-/// Puts the keys of the owner that mutations write under a place.
-fn put_all(
-    segments: &mut Segments,
-    part: &Part,
-    mutations: &[Mutation],
-    place: usize,
-) -> Result<(), AllocError>
-    ensures overlays { Overlays (covers (write_ranges mutations.now)) place segments.old segments.new }
-    ensures covered { OnOk result ((key : List ℕ) → IsTrue (owns part.now key) →
-        IsTrue (covers (write_ranges mutations.now) key) → IsCovered segments.new key place) }
-{
-    for mutation in mutations {
-        put_mutation(segments, part, mutation, place)?;
-    }
-    Ok(())
-}
-
-/// Puts the keys of the owner that the request at a place writes under that place.
-fn put_request(
-    segments: &mut Segments,
-    part: &Part,
-    requests: &Requests,
-    place: usize,
-) -> Result<(), AllocError>
-    requires kept { requests.now.forgotten ≤ place }
-    requires inside { place < length requests.now.all }
-    ensures overlays { Overlays (writes_key requests.now.all place) place segments.old segments.new }
-    ensures covered { OnOk result ((key : List ℕ) → IsTrue (owns part.now key) →
-        IsTrue (writes_key requests.now.all place key) → IsCovered segments.new key place) }
-{
-    let request = requests.at(place);
-    put_all(segments, part, request.mutations.as_slice(), place)?;
-    Ok(())
-}
-
-/// Puts the keys of the owner that the requests at these places write under their places, but for
-/// places before the least one, of which nobody asks.
-fn put_each(
-    segments: &mut Segments,
-    part: &Part,
-    requests: &Requests,
-    least: usize,
-    places: &[usize],
-) -> Result<(), AllocError>
-    requires kept { requests.now.forgotten ≤ least }
-    requires rising { IsTrue (rise_between zero (length requests.now.all) places.now) }
-    ensures puts { PutsEach requests.now.all places.now segments.old segments.new }
-    ensures covered { OnOk result ((key : List ℕ) (place : ℕ) → least ≤ place →
-        IsTrue (has_place places.now place) → IsTrue (owns part.now key) →
-        IsTrue (writes_key requests.now.all place key) → IsCovered segments.new key place) }
-{
-    for place in places {
-        if *place < least {
-            continue;
-        }
-        put_request(segments, part, requests, *place)?;
-    }
-    Ok(())
-}
-
-/// The newest place from the least one on under which a key of the range stands that is the owner's.
-fn newest_since(segments: &Segments, part: &Part, range: &KeyRange, least: usize) -> Option<usize>
-    ensures { (newest : Option ℕ)
-        × IsNewestOver segments.now (cut part.now range.now) newest × (result ≡ since least newest) }
-{
-    match segments.newest_between(part.begin_in(range), part.end_in(range)) {
+    match newest {
         Some(place) => if place < least { None } else { Some(place) },
         None => None,
     }
 }
 
-/// The cause against the request at a place by an owner, from the segments of what the requests
-/// before it wrote to which the owner agreed; None where the owner agrees to it.
-fn cause_against(
-    segments: &Segments,
-    part: &Part,
-    start: u64,
-    requests: &Requests,
-    place: usize,
-) -> Result<Option<Cause>, AllocError>
-    requires kept { requests.now.forgotten ≤ place }
-    requires inside { place < length requests.now.all }
-    requires fits { start + length requests.now.all < 2 ^ 64 }
-    requires below { ReadsBelow (numbered start requests.now.all) }
-    requires knows { let least = least_of start requests.now.all place in
-        KnowsKeys part.now start requests.now.all least place place segments.now }
-    ensures { let entries = numbered start requests.now.all in
-        IfOk result (λ cause. (entry : Entry) → slice_get entries place ≡ Some entry →
-        cause ≡ answer_of part.now entries entry) }
-{
-    let request = requests.at(place);
-    let least = request.read_version.saturating_sub(start) as usize;
-    for range in request.reads.as_slice() {
-        if let Some(newest) = newest_since(segments, part, range, least) {
-            let seen = start + newest as u64 + 1;
-            let range = range.copy()?;
-            return Ok(Some(Cause { seen, range }));
-        }
-    }
-    Ok(None)
-}
-
 /// What an owner keeps of the requests to which it agreed, as far back as the window.
 ///
-/// What a request wrote is put in order only when a later one asks that has read before it. Until
-/// then its place waits, so where each request has read what the others wrote nothing is put.
+/// It is kept twice: by hash what requests wrote by single keys, and in order all that they wrote.
+/// A request is noted by hash when a later one asks that has read before it, and put in order when
+/// that one reads a range of which points don't tell. Until then its place waits.
 #[derive(Debug, Drop)]
 pub(crate) struct Writers {
+    points: Points,
+    noted: usize,
+    unnoted: Vec<usize>,
     segments: Segments,
     ordered: usize,
     pending: Vec<usize>,
@@ -196,9 +66,13 @@ impl Model for Writers {
     ghost Value = { WritersState };
 
     ghost view = { λ a. record {
-      segments = a.segments;
-      ordered = a.ordered;
-      pending = a.pending.items;
+      ranges = record { segments = a.segments; ordered = a.ordered; pending = a.pending.items };
+      points = record {
+        segments = a.points.segments;
+        ordered = a.noted;
+        pending = a.unnoted.items;
+      };
+      whole_from = a.points.whole_from;
       dropped = a.dropped;
     } };
 }
@@ -209,6 +83,9 @@ impl Writers {
         ensures { result ≡ no_writers }
     {
         Writers {
+            points: Points::new(alloc),
+            noted: 0,
+            unnoted: Vec::new(alloc),
             segments: Segments::new(alloc),
             ordered: 0,
             pending: Vec::new(alloc),
@@ -216,7 +93,7 @@ impl Writers {
         }
     }
 
-    /// The place from which on it keeps ranges.
+    /// The place from which on it keeps what was written.
     pub(crate) fn dropped(&self) -> usize
         ensures { result ≡ self.now.dropped }
     {
@@ -235,9 +112,37 @@ impl Writers {
         if least.saturating_sub(self.dropped) < window {
             return;
         }
+        self.points.drop_before(least);
+        self.unnoted.retain(|place| *place >= least);
         self.segments.drop_before(least);
         self.pending.retain(|place| *place >= least);
         self.dropped = least;
+    }
+
+    /// Notes by hash what waits, of the requests before a place, from the floor on: nothing where
+    /// points can't be all that was written from the least place on.
+    fn note(
+        &mut self,
+        part: &Part,
+        requests: &Requests,
+        floor: usize,
+        upto: usize,
+        least: usize,
+    ) -> Result<(), AllocError>
+        requires asks { MayAsk requests.now floor upto }
+        requires in_order { let points = self.old.points in
+            IsTrue (rise_between points.ordered upto points.pending) }
+        ensures noted { OnOk result (self.new.whole_from ≤ least → self.new.points.ordered ≡ upto) }
+        ensures kept { StandsAsBefore part.now requests.now.all floor upto self.old self.new }
+    {
+        if least < self.points.whole_from() {
+            return Ok(());
+        }
+        self.points
+            .note_each(part, requests, floor, self.unnoted.as_slice())?;
+        self.unnoted.clear();
+        self.noted = upto;
+        Ok(())
     }
 
     /// Puts in order what waits, of the requests before a place, from the least one on of which
@@ -249,17 +154,13 @@ impl Writers {
         least: usize,
         upto: usize,
     ) -> Result<(), AllocError>
-        requires kept { requests.now.forgotten ≤ least }
-        requires inside { upto ≤ length requests.now.all }
-        requires in_order { IsTrue (rise_between self.old.ordered upto self.old.pending) }
-        ensures ok { OnOk result ((start from : ℕ) → least ≤ from →
-            KnowsWriters part.now start requests.now.all from upto self.old →
-            KnowsKeys part.now start requests.now.all from upto upto self.new.segments) }
-        ensures kept { (start from : ℕ) → least ≤ from →
-            KnowsWriters part.now start requests.now.all from upto self.old →
-            KnowsWriters part.now start requests.now.all from upto self.new }
-        ensures recent { (window next : ℕ) →
-            KeepsRecent window next self.old → KeepsRecent window next self.new }
+        requires asks { MayAsk requests.now least upto }
+        requires in_order { let ranges = self.old.ranges in
+            IsTrue (rise_between ranges.ordered upto ranges.pending) }
+        ensures ordered { OnOk result (self.new.ranges.ordered ≡ upto) }
+        ensures kept { StandsAsBefore part.now requests.now.all least upto self.old self.new }
+        ensures points { self.new.points ≡ self.old.points }
+        ensures whole { self.new.whole_from ≡ self.old.whole_from }
     {
         put_each(
             &mut self.segments,
@@ -275,8 +176,10 @@ impl Writers {
 
     /// Whether a request that is kept may stand at the least place or after it.
     fn may_meet(&self, least: usize) -> bool
-        requires { (upto : ℕ) × IsTrue (rise_between self.now.ordered upto self.now.pending) }
-        ensures { result ≡ false → IsTrue (rise_between self.now.ordered least self.now.pending) }
+        requires { (upto : ℕ) ×
+            IsTrue (rise_between self.now.ranges.ordered upto self.now.ranges.pending) }
+        ensures { result ≡ false →
+            IsTrue (rise_between self.now.ranges.ordered least self.now.ranges.pending) }
     {
         match self.pending.last() {
             Some(place) => least <= *place,
@@ -284,8 +187,44 @@ impl Writers {
         }
     }
 
-    /// The cause against the request at a place by an owner, or None where the owner agrees to it.
-    /// Nobody asks of what stands before the floor.
+    /// The newest place over the owner's keys of a range, of what was written from the least place
+    /// on: by hash where points tell it, and else in order.
+    fn newest_in(
+        &mut self,
+        part: &Part,
+        requests: &Requests,
+        floor: usize,
+        upto: usize,
+        range: &KeyRange,
+        least: usize,
+    ) -> Result<Option<usize>, AllocError>
+        requires from { floor ≤ least }
+        requires asks { MayAsk requests.now floor upto }
+        requires knows { (start : ℕ) ×
+            KnowsWriters part.now start requests.now.all least upto self.old }
+        requires noted { self.old.whole_from ≤ least → self.old.points.ordered ≡ upto }
+        ensures newest { IfOk result (λ newest. (start : ℕ) →
+            KnowsWriters part.now start requests.now.all least upto self.old →
+            FindsNewest part.now start requests.now.all least upto range.now newest) }
+        ensures kept { StandsAsBefore part.now requests.now.all floor upto self.old self.new }
+        ensures points { self.new.points ≡ self.old.points }
+        ensures whole { self.new.whole_from ≡ self.old.whole_from }
+    {
+        if self.points.whole_from() <= least
+            && let Some(newest) = self.points.newest_in(part, range)
+        {
+            return Ok(newest);
+        }
+        self.put_in_order(part, requests, floor, upto)?;
+        Ok(
+            self.segments
+                .newest_between(part.begin_in(range), part.end_in(range)),
+        )
+    }
+
+    /// The cause against the request at a place by an owner, from what the requests before it wrote
+    /// to which the owner agreed; None where the owner agrees to it. Nobody asks of what stands
+    /// before the floor.
     fn decide(
         &mut self,
         part: &Part,
@@ -305,18 +244,35 @@ impl Writers {
         ensures cause { let entries = numbered start requests.now.all in
             IfOk result (λ cause. (entry : Entry) → slice_get entries place ≡ Some entry →
             cause ≡ answer_of part.now entries entry) }
-        ensures kept { (least : ℕ) → floor ≤ least →
-            KnowsWriters part.now start requests.now.all least place self.old →
-            KnowsWriters part.now start requests.now.all least place self.new }
-        ensures recent { (window next : ℕ) →
-            KeepsRecent window next self.old → KeepsRecent window next self.new }
+        ensures kept { StandsAsBefore part.now requests.now.all floor place self.old self.new }
     {
-        let least = requests.at(place).read_version.saturating_sub(start) as usize;
+        let request = requests.at(place);
+        let least = request.read_version.saturating_sub(start) as usize;
         if !self.may_meet(least) {
             return Ok(None);
         }
-        self.put_in_order(part, requests, floor, place)?;
-        cause_against(&self.segments, part, start, requests, place)
+        self.note(part, requests, floor, place, least)?;
+        for range in request.reads.as_slice() {
+            let newest = self.newest_in(part, requests, floor, place, range, least)?;
+            if let Some(newest) = since(newest, least) {
+                let seen = start + newest as u64 + 1;
+                let range = range.copy()?;
+                return Ok(Some(Cause { seen, range }));
+            }
+        }
+        Ok(None)
+    }
+
+    /// Has the request at a place wait, to which the owner agrees. Where memory runs out all is as
+    /// it was.
+    fn wait(&mut self, place: usize) -> Result<(), AllocError>
+        ensures ok { OnOk result (self.new ≡ waits_too place self.old) }
+        ensures err { OnErr result (self.new ≡ self.old) }
+    {
+        self.unnoted.reserve(1)?;
+        self.pending.push(place)?;
+        self.unnoted.push_reserved(place);
+        Ok(())
     }
 
     /// Has an owner answer for the request at a place: the cause against it, or else it is kept.
@@ -334,7 +290,8 @@ impl Writers {
         requires fits { start + length requests.now.all < 2 ^ 64 }
         requires below { ReadsBelow (numbered start requests.now.all) }
         requires recent { ReadsWithin window (numbered start requests.now.all) }
-        requires knows { KnowsWriters part.now start requests.now.all (place - window) place self.old }
+        requires knows { let least = place - window in
+            KnowsWriters part.now start requests.now.all least place self.old }
         ensures cause { let entries = numbered start requests.now.all in
             IfOk result (λ cause. (entry : Entry) → slice_get entries place ≡ Some entry →
             cause ≡ answer_of part.now entries entry) }
@@ -351,7 +308,7 @@ impl Writers {
         self.forget(floor, window as usize);
         let cause = self.decide(part, start, requests, floor, place)?;
         if cause.is_none() {
-            self.pending.push(place)?;
+            self.wait(place)?;
         }
         Ok(cause)
     }

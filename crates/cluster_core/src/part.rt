@@ -1,5 +1,5 @@
 // The share of the keys that one resolver or storage server owns. Used by `resolver`, `kept`,
-// `pipeline`, `server` and `tier`.
+// `points`, `segments`, `pipeline`, `server` and `tier`.
 ghost use Rattle.std.specs.Prelude.{◌≡◌, IfOk};
 ghost use Rattle.kv_core.specs.Bytes.{key_max, key_min};
 ghost use Rattle.kv_core.specs.Range.{has_keys};

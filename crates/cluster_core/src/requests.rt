@@ -1,5 +1,5 @@
 // The requests of a pipeline: all of them in proofs, and the last ones as bytes. Used by `pipeline`,
-// `resolver` and `kept`.
+// `resolver`, `kept`, `points` and `segments`.
 ghost use Rattle.std.specs.Prelude.{◌≡◌, ◌+◌, ◌<◌, ◌≤◌, ◌^◌, ◌++◌, ◌∷◌, [], drop, length};
 ghost use Rattle.std.specs.Prelude.{slice_index_or, OnOk, OnErr};
 

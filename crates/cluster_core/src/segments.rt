@@ -1,15 +1,21 @@
-// The last writer of each key, by runs of keys. Used by `kept`; `tree` holds its runs.
-ghost use Rattle.std.specs.Prelude.{◌≡◌, ◌≤◌, ◌↔◌, ℕ, Option, List, [], IsTrue, IfOk, IfNone};
-ghost use Rattle.std.specs.Prelude.{IfSome, OnOk};
+// The last writer of each key, by runs of keys, and how what requests wrote is put there. Used by
+// `kept`; `tree` holds its runs.
+ghost use Rattle.std.specs.Prelude.{◌≡◌, ◌≤◌, ◌<◌, ◌↔◌, ℕ, zero, Option, List, [], IsTrue, IfOk};
+ghost use Rattle.std.specs.Prelude.{IfNone, IfSome, OnOk, length};
 ghost use Rattle.kv_core.specs.Bytes.{key_lt};
-ghost use Rattle.kv_core.specs.Range.{contains};
+ghost use Rattle.kv_core.specs.Change.{write_range, write_ranges};
+ghost use Rattle.kv_core.specs.Range.{contains, covers, point};
+ghost use Rattle.cluster_core.specs.Decision.{owns};
+ghost use Rattle.cluster_core.specs.Kept.{PutsEach, has_place, rise_between, writes_key};
 ghost use Rattle.cluster_core.specs.Segments.{Begins, HaveKeys, IsCovered, IsNewestOver};
 ghost use Rattle.cluster_core.specs.Segments.{SegmentHolds};
 ghost use Rattle.cluster_core.specs.Segments.{IsOver, IsPartFrom, Overlays, from_to};
 ghost use Rattle.cluster_core.specs.Tree.{InOrder, at_key};
 
+use crate::part::Part;
+use crate::requests::Requests;
 use crate::tree::{Node, Tree, later};
-use kv_core::Bytes;
+use kv_core::{Bytes, Mutation};
 use std::alloc::{AllocError, Global};
 use std::marker::Model;
 use std::mem;
@@ -180,7 +186,8 @@ impl Segments {
 
     /// Drops what stands under a place before this one.
     pub fn drop_before(&mut self, least: usize)
-        ensures holds { (key : List ℕ) (place : ℕ) → SegmentHolds self.new key place → SegmentHolds self.old key place }
+        ensures holds { (key : List ℕ) (place : ℕ) →
+            SegmentHolds self.new key place → SegmentHolds self.old key place }
         ensures kept { (key : List ℕ) (place : ℕ) → least ≤ place → IsCovered self.old key place →
             IsCovered self.new key place }
         ensures recent { (key : List ℕ) (place : ℕ) → SegmentHolds self.new key place →
@@ -188,4 +195,107 @@ impl Segments {
     {
         drop_before(&mut self.segments, least);
     }
+}
+
+/// Puts a key under a place, if it is the owner's.
+fn put_key(
+    segments: &mut Segments,
+    part: &Part,
+    key: &Bytes,
+    place: usize,
+) -> Result<(), AllocError>
+    ensures overlays { Overlays (contains (point key.now)) place segments.old segments.new }
+    ensures covered { OnOk result ((own : List ℕ) → IsTrue (owns part.now own) →
+        IsTrue (contains (point key.now) own) → IsCovered segments.new own place) }
+{
+    if !part.owns(key) {
+        return Ok(());
+    }
+    segments.put(key.copy()?, key.next()?, place)
+}
+
+/// Puts the keys that a mutation writes under a place, if any of them is the owner's.
+fn put_mutation(
+    segments: &mut Segments,
+    part: &Part,
+    mutation: &Mutation,
+    place: usize,
+) -> Result<(), AllocError>
+    ensures overlays { Overlays (contains (write_range mutation.now)) place
+        segments.old segments.new }
+    ensures covered { OnOk result ((key : List ℕ) → IsTrue (owns part.now key) →
+        IsTrue (contains (write_range mutation.now) key) → IsCovered segments.new key place) }
+{
+    match mutation {
+        Mutation::Set { key, value: _ } => put_key(segments, part, key, place),
+        Mutation::Add { key, operand: _ } => put_key(segments, part, key, place),
+        Mutation::CompareAndClear { key, operand: _ } => put_key(segments, part, key, place),
+        Mutation::ClearRange(range) => if part.meets(range) {
+            segments.put(range.begin().copy()?, range.end().copy()?, place)
+        } else {
+            Ok(())
+        },
+    }
+}
+
+/// Puts the keys of the owner that mutations write under a place.
+fn put_all(
+    segments: &mut Segments,
+    part: &Part,
+    mutations: &[Mutation],
+    place: usize,
+) -> Result<(), AllocError>
+    ensures overlays { Overlays (covers (write_ranges mutations.now)) place
+        segments.old segments.new }
+    ensures covered { OnOk result ((key : List ℕ) → IsTrue (owns part.now key) →
+        IsTrue (covers (write_ranges mutations.now) key) → IsCovered segments.new key place) }
+{
+    for mutation in mutations {
+        put_mutation(segments, part, mutation, place)?;
+    }
+    Ok(())
+}
+
+/// Puts the keys of the owner that the request at a place writes under that place.
+fn put_request(
+    segments: &mut Segments,
+    part: &Part,
+    requests: &Requests,
+    place: usize,
+) -> Result<(), AllocError>
+    requires kept { requests.now.forgotten ≤ place }
+    requires inside { place < length requests.now.all }
+    ensures overlays { Overlays (writes_key requests.now.all place) place
+        segments.old segments.new }
+    ensures covered { OnOk result ((key : List ℕ) → IsTrue (owns part.now key) →
+        IsTrue (writes_key requests.now.all place key) → IsCovered segments.new key place) }
+{
+    let request = requests.at(place);
+    put_all(segments, part, request.mutations.as_slice(), place)?;
+    Ok(())
+}
+
+/// Puts the keys of the owner that the requests at these places write under their places, but for
+/// places before the least one, of which nobody asks.
+pub(crate) fn put_each(
+    segments: &mut Segments,
+    part: &Part,
+    requests: &Requests,
+    least: usize,
+    places: &[usize],
+) -> Result<(), AllocError>
+    requires kept { requests.now.forgotten ≤ least }
+    requires rising { IsTrue (rise_between zero (length requests.now.all) places.now) }
+    ensures puts { PutsEach requests.now.all places.now segments.old segments.new }
+    ensures covered { OnOk result ((key : List ℕ) (place : ℕ) → least ≤ place →
+        IsTrue (has_place places.now place) → IsTrue (owns part.now key) →
+        IsTrue (writes_key requests.now.all place key) → IsCovered segments.new key place) }
+{
+    for place in places {
+        if *place < least {
+            continue;
+        }
+        put_request(segments, part, requests, *place)?;
+    }
+    Ok(())
 }

@@ -17,10 +17,9 @@ ghost use Rattle.cluster_core.specs.Server.{owner_of, pairs_at, server_state, tu
 ghost use Rattle.cluster_core.specs.Tier.{absorb, absorb_each, first_refusal, map_of, part};
 ghost use Rattle.cluster_core.specs.Tier.{refusal_of};
 
-use crate::answers::ReadError;
 use crate::chains::Chains;
 use crate::part::Part;
-use kv_core::{Bytes, KeyRange, Mutation, Pair};
+use kv_core::{Bytes, KeyRange, Mutation, Pair, ReadError};
 use std::alloc::{AllocError, Global};
 use std::collections::VecDeque;
 

@@ -12,13 +12,13 @@ ghost use Rattle.cluster_core.specs.Decision.{Owned, owners};
 ghost use Rattle.cluster_core.specs.Server.{IsServer, first_server, owner_of, server_state};
 ghost use Rattle.cluster_core.specs.Tier.{ServerState, absorb, absorb_all, refusal, whole_map};
 
-use crate::answers::{Config, ConfigError, ReadError, Splits};
+use crate::answers::{Config, ConfigError, Splits};
 use crate::config::refusal_of;
 use crate::part::{Part, parts_between};
 use crate::server::{
     Server, have_next, least_pulled, owner_among, pull_each, read_each, refusal_among,
 };
-use kv_core::{Bytes, KeyRange, Mutation, Pair};
+use kv_core::{Bytes, KeyRange, Mutation, Pair, ReadError};
 use std::alloc::{AllocError, Global};
 use std::marker::Model;
 

@@ -1,7 +1,7 @@
 // The snapshot that has just what a host has read, and notes which reads want more. Used by
 // `answering`.
 ghost use Rattle.std.specs.Prelude.{◌≡◌};
-ghost use Rattle.txn.specs.Refusing.{NeverRefuses};
+ghost use Rattle.kv_core.specs.Read.{NeverRefuses};
 
 use crate::wanted::{Want, wanted};
 use cluster_core::ReadError;

@@ -5,10 +5,11 @@ ghost use Rattle.kv_core.specs.Range.{has_keys};
 
 use crate::bytes::key;
 use cluster_core::{Cluster, Config};
+use commits::Commit;
 use kv_core::{Bytes, KeyRange, KvMap};
 use range_set::{first_gap, read_ranges};
 use std::alloc::Global;
-use txn::{Commit, Transaction};
+use txn::Transaction;
 
 /// What each key of the set begins with: the pack of (1).
 const PLACE: [u8; 2] = [0x15, 0x01];

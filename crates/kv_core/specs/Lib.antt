@@ -3,6 +3,7 @@ pub mod ShortBytes
 pub mod Kept
 pub mod Hashing
 pub mod Range
+pub mod Parts
 pub mod Coverage
 pub mod RangeIndex
 pub mod Addition

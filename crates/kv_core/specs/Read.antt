@@ -3,6 +3,7 @@ use Rattle.std.specs.Prelude.{ℕ, Bool, nat_lt, if◌then◌else◌, Option, So
 use Rattle.kv_core.specs.Bytes.{next_key}
 use Rattle.kv_core.specs.Range.{KeyRange}
 use Rattle.kv_core.specs.Map.{Map, pairs_in}
+use Rattle.kv_core.specs.declared.snapshot.ReadError.{ReadError}
 
 -- the first pairs of a list up to a limit, or with `reversed` the last ones, the last first
 abbrev pub limited : ℕ → Bool → List (List ℕ × List ℕ) → List (List ℕ × List ℕ)
@@ -30,3 +31,7 @@ range_read range limit reversed pairs =
 abbrev pub first_value : List (List ℕ × List ℕ) → Option (List ℕ)
 first_value [] = None
 first_value (pair ∷ pairs) = Some pair.1
+
+-- no read is refused
+abbrev pub NeverRefuses : KeyRange → ℕ → ReadError → Type 0
+NeverRefuses range version error = ⊥

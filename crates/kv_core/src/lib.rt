@@ -1,5 +1,5 @@
 //! The words of the database: byte strings, ranges of keys, mutations, their sizes and limits,
-//! and the ordered map from keys to values.
+//! the ordered map from keys to values, and what can be read as one at versions.
 #![tactic(auto)]
 
 mod addition;
@@ -18,6 +18,7 @@ mod range_list;
 mod removal;
 mod short_bytes;
 mod size;
+mod snapshot;
 mod words;
 
 pub use addition::add_le;
@@ -34,3 +35,4 @@ pub use pair::Pair;
 pub use range::KeyRange;
 pub use range_list::RangeList;
 pub use size::total_size;
+pub use snapshot::{ReadError, Snapshot};

@@ -1,7 +1,7 @@
 -- The cells that are read from bytes, one after another.
-use Rattle.std.proofs.Common.{◌≡◌, ℕ, List, [], ◌∷◌, ◌++◌, false, Option, Some, None, All, refl, length, sym, ap, subst, ◌∙◌, append_assoc, append-nil, arith}
+use Rattle.std.proofs.Common.{◌≡◌, ℕ, Bool, List, [], ◌∷◌, ◌++◌, false, Option, Some, None, All, refl, length, sym, ap, subst, ◌∙◌, append_assoc, append-nil, arith}
 use Rattle.std.specs.Prelude.{◌==◌}
-use Rattle.std.proofs.lemmas.Bool.{eqb-false}
+use Rattle.std.proofs.lemmas.Bool.{eqb-false, false≢true}
 use Rattle.std.proofs.lemmas.List.{map-append}
 use Rattle.std.proofs.lemmas.List.Elements.{All-head, All-tail, All-nil, All-cons, All-append}
 use Rattle.tuple_codec.specs.Item.{Item}
@@ -12,7 +12,7 @@ use Rattle.tuple_codec.proofs.Firsts.{first_unique, pack_follows}
 use Rattle.tuple_codec.proofs.Spellings.{item_spelled, item_spells}
 use Rattle.metadata.specs.declared.cells.Cell.{Cell}
 use Rattle.metadata.specs.Cell.{IsCell, cell_of, item_of, items_of}
-use Rattle.metadata.specs.Stored.{AreStoredAs, BeginsWithCell, IsOfNoCells}
+use Rattle.metadata.specs.Stored.{AreStoredAs, BeginsWithCell, BeginsWithOne, IsOfNoCells}
 use Rattle.metadata.proofs.CellItems.{are_items-items_of, cell_of-item_of, is_item-item_of, item_depth-item_of}
 use Rattle.metadata.proofs.CellSteps.{spelling_more}
 use Rattle.metadata.proofs.StoredCells.{cell_again}
@@ -46,7 +46,7 @@ ends bytes cells [] on empty = record { cells = on.are; has_value = on.whole ∙
 ends bytes cells (b ∷ rest) on empty = absurd (omega arith)
 
 -- the first of stored cells stands first
-stands : (one : Cell) (others : List Cell) (rest : List ℕ) → AreStoredAs rest (one ∷ others) → BeginsWithCell one (spelling (items_of others)) rest
+pub stands : (one : Cell) (others : List Cell) (rest : List ℕ) → AreStoredAs rest (one ∷ others) → BeginsWithCell one (spelling (items_of others)) rest
 stands one others rest stored =
     let first = All-head IsCell one others stored.cells in
     let behind = All-tail IsCell one others stored.cells in (
@@ -71,6 +71,17 @@ pub no_cell_first : (bytes : List ℕ) (x : Item) (behind : List ℕ) → Stands
 no_cell_first bytes x behind first none cell rest (known, begins) =
     let same = ap cell_of (first_unique bytes x (item_of cell) behind rest first begins).0 ∙ cell_of-item_of cell known in
     cc
+
+-- no cell stands first, so none of which something is so
+pub none_of : (so : Cell → Bool) (bytes : List ℕ) → ((cell : Cell) (rest : List ℕ) → BeginsWithCell cell rest bytes → ⊥) → (rest : List ℕ) → BeginsWithOne so rest bytes → ⊥
+none_of so bytes none rest (cell, is, begins) = none cell rest begins
+
+-- a cell stands first of which it isn't so, so none of which it is
+pub other_first : (so : Cell → Bool) (bytes behind : List ℕ) (cell : Cell) → BeginsWithCell cell behind bytes → so cell ≡ false → (rest : List ℕ) → BeginsWithOne so rest bytes → ⊥
+other_first so bytes behind cell (known, first) isnt rest (other, is, begins) =
+    let alike : Some cell ≡ Some other = sym (cell_of-item_of cell known) ∙ ap cell_of (first_unique bytes (item_of cell) (item_of other) behind rest first begins.1).0 ∙ cell_of-item_of other begins.0 in
+    let same : cell ≡ other = cc in
+    false≢true (sym isnt ∙ ap so same ∙ is)
 
 -- in a turn in which bytes are left
 module _ (bytes : List ℕ) (cells : List Cell) (rest : List ℕ) (on : GoesOn bytes cells rest) (some : length rest ≡ 0 → ⊥) where

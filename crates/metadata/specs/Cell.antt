@@ -1,6 +1,6 @@
 -- The value of a field, and what it is in a tuple.
 use Rattle.std.specs.Prelude.{◌≡◌, ◌^◌, ℕ, ℤ, pos, negsuc, Bool, true, false, ◌&&◌, List, [], ◌∷◌}
-use Rattle.std.specs.Prelude.{Option, Some, None, map, unwrap_or, slice_get, nat_lt, if◌then◌else◌}
+use Rattle.std.specs.Prelude.{not, Option, Some, None, map, unwrap_or, slice_get, nat_lt, if◌then◌else◌}
 use Rattle.std.specs.Option.{option_map, option_and_then}
 use Rattle.std.specs.Str.{IsUtf8}
 use Rattle.tuple_codec.specs.Item.{Item, AreBytes}
@@ -58,6 +58,10 @@ fits k cell = false
 abbrev pub is_null : Cell → Bool
 is_null Null = true
 is_null cell = false
+
+-- the cell is a value of this kind: of the kind, and not null
+abbrev pub is_value : Kind → Cell → Bool
+is_value k cell = fits k cell && not (is_null cell)
 
 -- as many cells as kinds, each null or of its kind
 abbrev pub all_fit : List Kind → List Cell → Bool

@@ -1,5 +1,6 @@
 -- The bytes that a record is stored in: its primary key's pack, and the pack of its first cells.
-use Rattle.std.specs.Prelude.{◌≡◌, ℕ, ◌-◌, nat_le, if◌then◌else◌, List, ◌++◌, length, replicate, All, Ok, Option}
+use Rattle.std.specs.Prelude.{◌≡◌, ℕ, ◌-◌, Bool, true, nat_le, if◌then◌else◌, List, ◌++◌, length, replicate, All}
+use Rattle.std.specs.Prelude.{Ok, Option}
 use Rattle.std.specs.Prelude.{Some, None}
 use Rattle.tuple_codec.specs.Spelling.{spelling}
 use Rattle.tuple_codec.specs.Unpacking.{StandsFirst}
@@ -41,9 +42,13 @@ pub record AreStoredAs (value : List ℕ) (stored : List Cell) : Type 0 where
 abbrev pub IsOfNoCells : List ℕ → Type 0
 IsOfNoCells value = (stored : List Cell) → AreStoredAs value stored → ⊥
 
--- Private: bytes begin with the pack of this cell, and these are behind it
+-- bytes begin with the pack of this cell, and these are after it
 abbrev pub BeginsWithCell : Cell → List ℕ → List ℕ → Type 0
 BeginsWithCell cell rest bytes = IsCell cell × StandsFirst (item_of cell) rest bytes
+
+-- bytes begin with the pack of a cell of which this is so, and these are after it
+abbrev pub BeginsWithOne : (Cell → Bool) → List ℕ → List ℕ → Type 0
+BeginsWithOne so rest bytes = (cell : Cell) × (so cell ≡ true) × BeginsWithCell cell rest bytes
 
 -- the type is one of the schema's
 abbrev pub IsTypeOf : Schema → TypeDefinition → Type 0

@@ -1,14 +1,14 @@
-// Cells that are read from bytes and from tuples. Used by `stored`, and by `plan_exec` and
-// `json_forms`.
+// Cells that are read from bytes and from tuples, or skipped in bytes. Used by `stored`, and by
+// `plan_exec` and `json_forms`.
 ghost use Rattle.std.specs.Prelude.{◌≡◌, ◌<◌, ℕ, List, IfOk, IfSome, length};
 ghost use Rattle.std.specs.Option.{IfNone};
 ghost use Rattle.tuple_codec.specs.Elements.{item_in};
 ghost use Rattle.tuple_codec.specs.Item.{int};
-ghost use Rattle.metadata.specs.Cell.{cell_of, cells_of};
+ghost use Rattle.metadata.specs.Cell.{cell_of, cells_of, fits, is_value};
 ghost use Rattle.metadata.specs.declared.cells.Cell.{Cell as CellValue};
-ghost use Rattle.metadata.specs.Stored.{AreStoredAs, BeginsWithCell, IsOfNoCells};
+ghost use Rattle.metadata.specs.Stored.{AreStoredAs, BeginsWithCell, BeginsWithOne, IsOfNoCells};
 
-use crate::cells::{Cell, Cells};
+use crate::cells::{Cell, Cells, Kind};
 use std::alloc::{AllocError, Global};
 use tuple_codec::{Element, Tuple, TupleInt, unpack_first, unpack_int};
 
@@ -55,6 +55,46 @@ fn unpack_cell(alloc: Global, bytes: &[u8]) -> Result<Option<(Cell, &[u8])>, All
     match cell_in(element) {
         Some(cell) => Ok(Some((cell, behind))),
         None => Ok(None),
+    }
+}
+
+impl Cell {
+    /// What stands after the pack of a cell that is null or of this kind, where the bytes begin
+    /// with one, as those of several cells do.
+    #[inline(always)]
+    pub fn skip_pack(alloc: Global, kind: Kind, bytes: &[u8]) -> Result<Option<&[u8]>, AllocError>
+        ensures skipped { IfOk result (λ found.
+            IfSome found (λ rest. BeginsWithOne (fits kind) rest.now bytes.now)) }
+        ensures none { IfOk result (λ found. IfNone found
+            ((rest : List ℕ) → BeginsWithOne (fits kind) rest bytes.now → ⊥)) }
+    {
+        let Some((cell, after)) = unpack_cell(alloc, bytes)? else {
+            return Ok(None);
+        };
+        if cell.fits(kind) {
+            Ok(Some(after))
+        } else {
+            Ok(None)
+        }
+    }
+
+    /// What stands after the pack of a cell that is of this kind and not null, where the bytes
+    /// begin with one, as those of several cells do.
+    #[inline(always)]
+    pub fn skip_value(alloc: Global, kind: Kind, bytes: &[u8]) -> Result<Option<&[u8]>, AllocError>
+        ensures skipped { IfOk result (λ found.
+            IfSome found (λ rest. BeginsWithOne (is_value kind) rest.now bytes.now)) }
+        ensures none { IfOk result (λ found. IfNone found
+            ((rest : List ℕ) → BeginsWithOne (is_value kind) rest bytes.now → ⊥)) }
+    {
+        let Some((cell, after)) = unpack_cell(alloc, bytes)? else {
+            return Ok(None);
+        };
+        if cell.fits(kind) && !cell.is_null() {
+            Ok(Some(after))
+        } else {
+            Ok(None)
+        }
     }
 }
 

@@ -11,7 +11,7 @@ use Rattle.kv_core.specs.Range.{KeyRange, contains}
 use Rattle.kv_core.specs.Read.{range_read}
 use Rattle.kv_core.specs.declared.change.CommitRequest.{CommitRequest}
 use Rattle.kv_core.proofs.Pairs.{directed, entries-kept}
-use Rattle.cluster_core.specs.declared.answers.ReadError.{ReadError}
+use Rattle.kv_core.specs.declared.snapshot.ReadError.{ReadError}
 use Rattle.txn.specs.Cursor.{HasBatch, IsNoBatch, behind_last, pairs_left, rest_behind}
 use Rattle.txn.specs.Reads.{seen}
 use Rattle.txn.specs.declared.cursor.RangeCursor.{RangeCursor}

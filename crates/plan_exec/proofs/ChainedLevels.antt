@@ -6,7 +6,7 @@ use Rattle.std.proofs.lemmas.List.{map-append}
 use Rattle.kv_core.specs.Map.{Map}
 use Rattle.kv_core.specs.Range.{KeyRange}
 use Rattle.kv_core.specs.declared.change.CommitRequest.{CommitRequest}
-use Rattle.cluster_core.specs.declared.answers.ReadError.{ReadError}
+use Rattle.kv_core.specs.declared.snapshot.ReadError.{ReadError}
 use Rattle.txn.proofs.Running.{ran_because, ran_then}
 use Rattle.metadata.specs.Layout.{Pair}
 use Rattle.metadata.specs.Record.{Record}

@@ -4,7 +4,7 @@ use Rattle.std.specs.Result.{result_err, result_map_both}
 use Rattle.std.proofs.Common.{ap, sym, ◌∙◌, subst}
 use Rattle.std.proofs.lemmas.List.{map-append}
 use Rattle.kv_core.specs.Range.{KeyRange}
-use Rattle.cluster_core.specs.declared.answers.ReadError.{ReadError}
+use Rattle.kv_core.specs.declared.snapshot.ReadError.{ReadError}
 use Rattle.record_store.specs.Steps.{IsBeginning, IsNextRefused}
 use Rattle.record_store.proofs.Stopping.{begin_behind}
 use Rattle.plan_exec.specs.Executing.{IsExecutionStopped, ranges_added, ranges_asked}

@@ -28,7 +28,7 @@ use Rattle.planner.proofs.RisingRows.{rows_rise}
 use Rattle.planner.proofs.Sorted.{Rise}
 use Rattle.plan_exec.specs.Course.{Course, all_joined, entries_course, fetch_course, for_each, merged_course, node_course, nodes_course, outcome_of, record_course, record_there, scan_course}
 use Rattle.plan_exec.specs.Reads.{stored_entry}
-use Rattle.plan_exec.specs.declared.entry.Entry.{Entry}
+use Rattle.plan_exec.specs.Entry.{Entry}
 use Rattle.plan_exec.proofs.AllJoined.{all_joined_ok, first_in_all, keys_first_in_all}
 use Rattle.plan_exec.proofs.Courses.{found_append, outcome_ok}
 use Rattle.plan_exec.proofs.CoursesFound.{first_ok, for_each_gives, found_or_ok, kept_ok, pairs_found}

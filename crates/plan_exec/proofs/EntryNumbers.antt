@@ -1,6 +1,6 @@
 -- Which cell has the pack of a whole number.
-use Rattle.std.specs.Prelude.{◌≡◌, ℕ, ◌<◌, ◌^◌, Bool, true, false, [], ◌∷◌, refl, bytes_eq, pos}
-use Rattle.std.specs.Bool.{Decides, MatchBool}
+use Rattle.std.specs.Prelude.{◌≡◌, ℕ, ◌<◌, ◌^◌, [], ◌∷◌, bytes_eq, pos}
+use Rattle.std.specs.Bool.{Decides}
 use Rattle.std.proofs.Common.{ap, sym, subst, arith}
 use Rattle.std.proofs.lemmas.Slice.Eq.{bytes_eq-Decides}
 use Rattle.tuple_codec.specs.Item.{int}
@@ -33,12 +33,3 @@ number_pack c n is few = (
       same_cell c n (one_tuple (item_of c ∷ []) (int (pos n) ∷ []) (spelling (item_of c ∷ [])) (cell_spells c is) (subst (Spells (int (pos n) ∷ [])) (sym same) (number_spells n few))),
   λ e. (bytes_eq-Decides (pack (c ∷ [])) (pack (Int (pos n) ∷ []))).1 (ap (λ x. pack (x ∷ [])) e),
 )
-
--- two tests of what is so at once are one
-pub one_test : {P Q : Type 0} (r b : Bool) → MatchBool r P (P → ⊥) → Decides b Q → (P → Q) → (Q → P) → r ≡ b
-one_test true b says decides forth back = sym (decides.1 (forth says))
-one_test false true says decides forth back = absurd (says (back (decides.0 refl)))
-one_test false false says decides forth back = refl
-
-pub other_cell : (c : Cell) (n : ℕ) → ((z : _) → c ≡ Int z → ⊥) → IsCell c → n < 2 ^ 64 → false ≡ bytes_eq (pack (c ∷ [])) (pack (Int (pos n) ∷ []))
-other_cell c n never is few = one_test {P = c ≡ Int (pos n)} {Q = c ≡ Int (pos n)} false (bytes_eq (pack (c ∷ [])) (pack (Int (pos n) ∷ []))) (never (pos n)) (number_pack c n is few) (λ e. e) (λ e. e)

@@ -5,8 +5,8 @@ use Rattle.std.proofs.Common.{ap, sym, ◌∙◌, append-nil}
 use Rattle.kv_core.specs.Map.{Agree, Map}
 use Rattle.kv_core.specs.Range.{KeyRange, point}
 use Rattle.kv_core.specs.declared.change.CommitRequest.{CommitRequest}
-use Rattle.cluster_core.specs.declared.answers.ReadError.{ReadError}
-use Rattle.cluster_core.specs.declared.answers.ReadError.TheVariants as read
+use Rattle.kv_core.specs.declared.snapshot.ReadError.{ReadError}
+use Rattle.kv_core.specs.declared.snapshot.ReadError.TheVariants as read
 use Rattle.txn.specs.Reads.{has_read, seen}
 use Rattle.txn.proofs.Running.{ran_because}
 use Rattle.metadata.specs.declared.definition.TypeDefinition.{TypeDefinition}
@@ -19,7 +19,7 @@ use Rattle.plan_exec.specs.Decoding.{IsDamage}
 use Rattle.plan_exec.specs.Errors.{exec_read}
 use Rattle.plan_exec.specs.Reads.{or_damaged}
 use Rattle.plan_exec.specs.Streams.{HasGiven, HasNotGiven}
-use Rattle.plan_exec.specs.declared.entry.Entry.{Entry}
+use Rattle.plan_exec.specs.Entry.{Entry}
 use Rattle.plan_exec.specs.declared.error.ExecError.{ExecError}
 use Rattle.plan_exec.specs.declared.error.ExecError.TheVariants.{Corrupt}
 use Rattle.plan_exec.proofs.SingleReads.{read_value}

@@ -9,7 +9,7 @@ use borrow.Rule.Slice.PartMut.{mid_of, put_mid}
 use Rattle.kv_core.specs.Map.{Map}
 use Rattle.kv_core.specs.Range.{KeyRange}
 use Rattle.kv_core.specs.declared.change.CommitRequest.{CommitRequest}
-use Rattle.cluster_core.specs.declared.answers.ReadError.{ReadError}
+use Rattle.kv_core.specs.declared.snapshot.ReadError.{ReadError}
 use Rattle.metadata.specs.Layout.{Pair}
 use Rattle.metadata.specs.Record.{Record}
 use Rattle.planner.specs.Layout.{primary_cells}

@@ -1,15 +1,15 @@
 -- The keys of records and entries lie below the end of the keys, and the ranges of scans are ranges of keys.
-use Rattle.std.specs.Prelude.{◌≡◌, ℕ, Bool, true, false, not, ◌&&◌, cond, List, [], ◌∷◌, ◌++◌, filter, reverse, refl, IsTrue, pos}
+use Rattle.std.specs.Prelude.{◌≡◌, ℕ, ℤ, Bool, true, false, not, ◌&&◌, cond, List, [], ◌∷◌, ◌++◌, filter, reverse, refl, IsTrue, pos}
 use Rattle.std.specs.FinMap.{entries, get, get-entries}
 use Rattle.std.specs.FinMap.Entries.{find}
 use Rattle.std.specs.Ordering.{is_le, is_lt, ordering_reverse}
 use Rattle.std.specs.declared.cmp.Ordering.{Ordering}
 use Rattle.std.specs.declared.cmp.Ordering.TheVariants.{Less, Equal, Greater}
 use Rattle.std.specs.Cmp.Lexicographic.{nat_list_cmp_total}
-use Rattle.std.proofs.Common.{ap, sym, ◌∙◌, append_assoc}
+use Rattle.std.proofs.Common.{ap, sym, ◌∙◌, append_assoc, append-nil}
 use Rattle.tuple_codec.specs.Item.{int}
 use Rattle.tuple_codec.specs.Order.{bytes_cmp}
-use Rattle.tuple_codec.specs.Spelling.{int_spelling, spelling}
+use Rattle.tuple_codec.specs.Spelling.{int_spelling, item_spelling, outer, spelling}
 use Rattle.tuple_codec.specs.Spelling as written
 use Rattle.kv_core.specs.Bytes.{end_of_keys, key_le, key_lt}
 use Rattle.kv_core.specs.Map.{Map}
@@ -24,6 +24,11 @@ use Rattle.metadata.specs.Layout.{Pair, entries_prefix, record_key, records_pref
 use Rattle.planner.specs.Meaning.{pairs_scanned}
 use Rattle.planner.specs.Range as planned
 use Rattle.plan_exec.specs.Reads.{pairs_within, scan_range}
+
+-- a number is packed behind a key
+pub number_behind : (key front new : List ℕ) (n : ℕ) (number : ℤ) → front ≡ key → new ≡ front ++ item_spelling outer (int number) → number ≡ pos n → new ≡ key ++ spelling (int (pos n) ∷ [])
+number_behind key front new n number same pushed is =
+    pushed ∙ (λ i. same i ++ item_spelling outer (int (is i))) ∙ ap (λ s. key ++ s) (sym (append-nil (item_spelling outer (int (pos n)))))
 
 module _ (prefix : List ℕ) (below : key_lt prefix end_of_keys ≡ true) where
   -- what begins with the key of the records of a type, or of the entries of an index, is below the end of the keys

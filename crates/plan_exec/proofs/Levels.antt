@@ -8,7 +8,7 @@ use Rattle.kv_core.specs.Map.{Map, after_all}
 use Rattle.kv_core.specs.Range.{KeyRange}
 use Rattle.kv_core.specs.declared.change.CommitRequest.{CommitRequest}
 use Rattle.kv_core.proofs.Changes.{Agree-refl}
-use Rattle.cluster_core.specs.declared.answers.ReadError.{ReadError}
+use Rattle.kv_core.specs.declared.snapshot.ReadError.{ReadError}
 use Rattle.txn.specs.Reads.{seen}
 use Rattle.txn.proofs.Running.{ran_because, ran_still, ran_then}
 use Rattle.record_store.specs.Steps.{DidRead}

@@ -8,6 +8,8 @@ pub mod Composing
 pub mod ReadAs
 pub mod KeyRanges
 pub mod EntryNumbers
+pub mod EntryCells
+pub mod EntryPacks
 pub mod SingleReads
 pub mod InOrder
 pub mod Shares

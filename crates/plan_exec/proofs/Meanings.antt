@@ -10,7 +10,7 @@ use Rattle.metadata.specs.Layout.{Pair}
 use Rattle.planner.specs.Layout.{entry_primary_key}
 use Rattle.planner.specs.Meaning.{of_each}
 use Rattle.plan_exec.specs.Reads.{stored_entry}
-use Rattle.plan_exec.specs.declared.entry.Entry.{Entry}
+use Rattle.plan_exec.specs.Entry.{Entry}
 
 -- ---- readings
 

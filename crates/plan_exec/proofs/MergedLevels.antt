@@ -8,7 +8,7 @@ use Rattle.std.proofs.Common.{sym, ◌∙◌, subst, arith}
 use Rattle.kv_core.specs.Map.{Map}
 use Rattle.kv_core.specs.Range.{KeyRange}
 use Rattle.kv_core.specs.declared.change.CommitRequest.{CommitRequest}
-use Rattle.cluster_core.specs.declared.answers.ReadError.{ReadError}
+use Rattle.kv_core.specs.declared.snapshot.ReadError.{ReadError}
 use Rattle.metadata.specs.declared.cells.Cell.{Cell}
 use Rattle.metadata.specs.Layout.{Pair}
 use Rattle.metadata.specs.Order.{cells_cmp}

@@ -4,27 +4,14 @@ use Rattle.std.proofs.Common.{ap, sym, ◌∙◌}
 use Rattle.std.proofs.lemmas.List.{append_cancel_left}
 use Rattle.tuple_codec.specs.Spelling.{spelling}
 use Rattle.tuple_codec.specs.Subspace.{BeginsWith}
-use Rattle.metadata.specs.declared.cells.Cell.{Cell}
 use Rattle.metadata.specs.declared.definition.TypeDefinition.{TypeDefinition}
 use Rattle.metadata.specs.Record.{Record, primary_key}
-use Rattle.metadata.specs.Stored.{AreStoredAs, IsOfNoCells, IsOfNoRecord, IsStoredAs}
+use Rattle.metadata.specs.Stored.{IsOfNoRecord, IsStoredAs}
 use Rattle.record_store.specs.Layout.{place}
 use Rattle.record_store.proofs.Keys.{record_key_is}
 use Rattle.metadata.specs.Layout.{Pair, record_key}
 use Rattle.planner.specs.Layout.{stored_record}
-use Rattle.planner.specs.Pack.{unpack}
-use Rattle.planner.proofs.ReadBack.{cells_back, records_back}
-
--- ---- bytes as cells
-
--- the cells that are found by what is stored are those that are unpacked
-pub as_unpacked : (bytes : List ℕ) (found : Option (List Cell)) → IfSome found (AreStoredAs bytes) → IfNone found (IsOfNoCells bytes) → found ≡ unpack bytes
-as_unpacked bytes (Some cells) stored none = sym ((cells_back bytes cells).1 stored)
-as_unpacked bytes None stored none = by (unpack bytes) refl
-  where
-    by : (o : Option (List Cell)) → unpack bytes ≡ o → None ≡ o
-    by None is = refl
-    by (Some cells) is = absurd (none cells ((cells_back bytes cells).0 is))
+use Rattle.planner.proofs.ReadBack.{records_back}
 
 -- ---- pairs as records
 

@@ -6,7 +6,7 @@ use Rattle.std.proofs.lemmas.List.Sums.{sum_by-cons}
 use Rattle.kv_core.specs.Map.{Map}
 use Rattle.kv_core.specs.Range.{KeyRange}
 use Rattle.kv_core.specs.declared.change.CommitRequest.{CommitRequest}
-use Rattle.cluster_core.specs.declared.answers.ReadError.{ReadError}
+use Rattle.kv_core.specs.declared.snapshot.ReadError.{ReadError}
 use Rattle.metadata.specs.Record.{Record}
 use Rattle.plan_exec.specs.Levels.{head_then}
 use Rattle.plan_exec.specs.Streams.{HasGiven, HasNotGiven}

@@ -38,7 +38,7 @@ use Rattle.plan_exec.specs.Executing.{ranges_added, ranges_asked}
 use Rattle.plan_exec.specs.Handing.{reads_until}
 use Rattle.plan_exec.specs.Reads.{PlanRead, batches, pairs_within, scan_range, stored_entry}
 use Rattle.plan_exec.specs.Within.{IsOfScan, MayRead, PlansReadTheirScansUntil, PlansReadTheirScans, path_prefix, scan_has}
-use Rattle.plan_exec.specs.declared.entry.Entry.{Entry}
+use Rattle.plan_exec.specs.Entry.{Entry}
 use Rattle.plan_exec.proofs.InBatches.{flat, flat_cut}
 use Rattle.plan_exec.proofs.KeyRanges.{same_within}
 

@@ -20,7 +20,7 @@ use Rattle.planner.specs.Plan.{IndexScan, Node, Nodes, Scan, Source, distinct, f
 use Rattle.planner.specs.Plan.{no_nodes, node, one, scan, union, unordered_union}
 use Rattle.plan_exec.specs.Reads.{PlanRead, PlanReading, batches, made_of, pairs_within, read_first, scan_range}
 use Rattle.plan_exec.specs.Reads.{stored_entry, without_reads}
-use Rattle.plan_exec.specs.declared.entry.Entry.{Entry}
+use Rattle.plan_exec.specs.Entry.{Entry}
 
 -- a range is read, something is found, or a pair with this key is damaged
 pub data Event (A : Type 0) : Type 0 where

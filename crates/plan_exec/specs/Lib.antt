@@ -3,6 +3,7 @@ pub mod Laws
 pub mod Planning
 pub mod Errors
 pub mod Accepting
+pub mod Entry
 pub mod Reads
 pub mod Course
 pub mod Executing

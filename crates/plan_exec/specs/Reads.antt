@@ -10,7 +10,7 @@ use Rattle.metadata.specs.declared.index.IndexDefinition.{IndexDefinition}
 use Rattle.metadata.specs.Layout.{Pair}
 use Rattle.planner.specs.Layout.{entry_primary_key}
 use Rattle.planner.specs.Range as planned
-use Rattle.plan_exec.specs.declared.entry.Entry.{Entry}
+use Rattle.plan_exec.specs.Entry.{Entry}
 
 -- a read: the range that it asks for, which may be refused, and what of it decides the answer, which is kept as read
 pub record PlanRead : Type 0 where

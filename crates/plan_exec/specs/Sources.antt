@@ -4,7 +4,7 @@ use Rattle.metadata.specs.Layout.{Pair}
 use Rattle.plan_exec.specs.Course.{Course}
 use Rattle.plan_exec.specs.Levels.{joined_levels}
 use Rattle.plan_exec.specs.Streams.{entries_made, pair_course}
-use Rattle.plan_exec.specs.declared.entry.Entry.{Entry}
+use Rattle.plan_exec.specs.Entry.{Entry}
 use Rattle.plan_exec.specs.declared.fetch_streams.SourceStream.{SourceStream}
 use Rattle.plan_exec.specs.declared.fetch_streams.SourceStream.TheVariants.{Scanned, Shared}
 use Rattle.plan_exec.specs.declared.record_streams.EntryStream.{EntryStream}

@@ -4,7 +4,7 @@ use Rattle.std.specs.FinMap.{entries}
 use Rattle.kv_core.specs.Map.{Map}
 use Rattle.kv_core.specs.Range.{KeyRange}
 use Rattle.kv_core.specs.declared.change.CommitRequest.{CommitRequest}
-use Rattle.cluster_core.specs.declared.answers.ReadError.{ReadError}
+use Rattle.kv_core.specs.declared.snapshot.ReadError.{ReadError}
 use Rattle.metadata.specs.Layout.{Pair}
 use Rattle.metadata.specs.Record.{Record}
 use Rattle.record_store.specs.Steps.{DidRead}
@@ -14,7 +14,7 @@ use Rattle.plan_exec.specs.Course.{Course, fails, finds, for_each, found_or, ran
 use Rattle.plan_exec.specs.Course.{record_course}
 use Rattle.plan_exec.specs.Executing.{ranges_added}
 use Rattle.plan_exec.specs.Reads.{PlanRead, stored_entry}
-use Rattle.plan_exec.specs.declared.entry.Entry.{Entry}
+use Rattle.plan_exec.specs.Entry.{Entry}
 use Rattle.plan_exec.specs.declared.error.ExecError.{ExecError}
 use Rattle.plan_exec.specs.declared.error.ExecError.TheVariants.{Corrupt, Memory, Read}
 use Rattle.plan_exec.specs.declared.readers.EntriesOf.{EntriesOf}

@@ -1,14 +1,12 @@
-// What the pairs of records and of entries stand for. Called by `readers`, `entries` and
-// `record_streams`.
+// What the pairs of records stand for. Called by `readers` and `record_streams`.
 ghost use Rattle.std.specs.Prelude.{◌≡◌, ◌++◌, IfOk, MatchOption};
 ghost use Rattle.tuple_codec.specs.Subspace.{BeginsWith};
 ghost use Rattle.metadata.specs.Layout.{place_of_records};
 ghost use Rattle.record_store.specs.Layout.{place};
 ghost use Rattle.planner.specs.Layout.{stored_record};
-ghost use Rattle.planner.specs.Pack.{unpack};
 
 use kv_core::Pair;
-use metadata::{Cells, Record, TypeDefinition};
+use metadata::{Record, TypeDefinition};
 use record_store::Store;
 use std::alloc::{AllocError, Global};
 use std::rc::Rc;
@@ -49,12 +47,4 @@ pub(crate) fn record_in(
         Some(primary_key) => Record::decode_shared(store.alloc(), definition, primary_key, value),
         None => Ok(None),
     }
-}
-
-// The cells whose pack these bytes are.
-pub(crate) fn cells_in(alloc: Global, bytes: &[u8]) -> Result<Option<Cells>, AllocError>
-    ensures { IfOk result (λ found. found ≡ unpack bytes.now) }
-{
-    let found = Cells::unpack(alloc, bytes)?;
-    Ok(found)
 }

@@ -1,22 +1,26 @@
-// What the pairs of an index's entries stand for. Called by `readers` and `record_streams`.
-ghost use Rattle.std.specs.Prelude.{◌≡◌, ◌∷◌, [], IfOk, MatchBool, bytes_eq, drop};
-ghost use Rattle.std.specs.Prelude.{if◌then◌else◌, length, not, pos, take, None, Some, ◌&&◌};
+// Which pairs of an index's entries are of the written form. An entry is told by its bytes: its
+// cells are looked at one after another, and none is kept. Called by `readers` and
+// `record_streams`.
+ghost use Rattle.std.specs.Prelude.{◌≡◌, ◌<◌, ◌^◌, ◌&&◌, ◌++◌, List, ℕ, IfOk, IsTrue};
+ghost use Rattle.std.specs.Prelude.{MatchOption, None, drop, not, pos};
 ghost use Rattle.std.specs.List.{list_any};
+ghost use Rattle.kv_core.specs.Bytes.{end_of_keys, key_lt};
 ghost use Rattle.metadata.specs.declared.cells.Cell.TheVariants.{Int};
 ghost use Rattle.metadata.specs.Cell.{all_fit, is_null};
 ghost use Rattle.metadata.specs.Schema.{key_kinds, kind_at};
-ghost use Rattle.planner.specs.Layout.{column_kinds, entry_primary_key, is_entry, is_primary_key};
-ghost use Rattle.planner.specs.Pack.{pack};
-ghost use Rattle.plan_exec.specs.Decoding.{IsFormOf};
+ghost use Rattle.metadata.specs.Stored.{BeginsWithCell};
+ghost use Rattle.planner.specs.Layout.{column_kinds, is_primary_key};
+ghost use Rattle.plan_exec.specs.Decoding.{AreAfter, EndsWithKey, IsFormOf, NoneAreAfter};
+ghost use Rattle.plan_exec.specs.Decoding.{entry_key_in, is_pack_of};
 ghost use Rattle.plan_exec.specs.Reads.{stored_entry};
 
-use crate::decoding::cells_in;
 use crate::entry::{Entry, EntryForm};
 use crate::keys::entries_key;
 use kv_core::Pair;
-use metadata::{Cell, Cells, Field, IndexDefinition, Kind, TypeDefinition};
+use metadata::{Cell, Field, IndexDefinition, Kind, TypeDefinition};
 use record_store::Store;
 use std::alloc::{AllocError, Global};
+use tuple_codec::{TupleInt, strip_int};
 
 // The kind of the field at this place.
 fn kind_at(fields: &[Field], place: usize) -> Option<Kind>
@@ -47,7 +51,9 @@ pub(crate) fn entry_form(
     definition: &TypeDefinition,
     index: &IndexDefinition,
 ) -> Result<EntryForm, AllocError>
-    ensures { IfOk result (IsFormOf store.now.prefix definition.now index.now) }
+    ensures form { IfOk result (IsFormOf store.now.prefix definition.now index.now) }
+    ensures below { IfOk result (λ form. (rest : List ℕ) →
+        IsTrue (key_lt (form.front.items ++ rest) end_of_keys)) }
 {
     let front = entries_key(store, index)?;
     let columns = column_kinds(store.alloc(), definition, index)?;
@@ -59,154 +65,112 @@ pub(crate) fn entry_form(
     })
 }
 
-// Whether there is a cell for each kind, null or of that kind.
-fn fit(kinds: &[Kind], cells: &[Cell]) -> bool
-    ensures { result ≡ all_fit kinds.now cells.now }
+// What stands after the packs of cells of these kinds, null or not. None where others stand there.
+fn after_columns<'a>(
+    alloc: Global,
+    kinds: &[Kind],
+    bytes: &'a [u8],
+) -> Result<Option<&'a [u8]>, AllocError>
+    ensures { IfOk result (λ found. MatchOption found
+        (NoneAreAfter kinds.now bytes.now) (λ rest. AreAfter kinds.now rest.now bytes.now)) }
 {
-    match kinds {
-        [] => cells.is_empty(),
-        [kind, others @ ..] => match cells {
-            [] => false,
-            [cell, rest @ ..] => cell.fits(*kind) && fit(others, rest),
-        },
+    let mut rest = bytes;
+    for kind in kinds {
+        match Cell::skip_pack(alloc, *kind, rest)? {
+            Some(after) => rest = after,
+            None => return Ok(None),
+        }
     }
+    Ok(Some(rest))
 }
 
-// Whether one of the cells is null.
-fn has_null(cells: &[Cell]) -> bool
-    ensures { result ≡ list_any is_null cells.now }
-{
-    cells.iter().any(Cell::is_null)
-}
+// No cell is so great a number, or a greater one.
+const BEYOND_CELLS: u64 = 1 << 63;
 
-// Whether a whole number with a sign is this one.
-fn is_same_number(value: &i64, number: u64) -> bool
-    ensures { MatchBool result (value.now ≡ pos number) (value.now ≡ pos number → ⊥) }
+// What stands after the pack of a type's number, where that is a cell's.
+#[inline(always)]
+fn after_number(number: u64, bytes: &[u8]) -> Option<&[u8]>
+    ensures told { MatchOption result
+        ((rest : List ℕ) → BeginsWithCell (Int (pos number)) rest bytes.now → ⊥)
+        (λ rest. BeginsWithCell (Int (pos number)) rest.now bytes.now) }
+    ensures fits { number < 2 ^ 64 }
 {
-    match u64::try_from(*value) {
-        Ok(own) => own == number,
-        Err(_) => false,
-    }
-}
-
-// Whether the cell is this number.
-fn is_number(cell: &Cell, number: u64) -> bool
-    ensures { result ≡ bytes_eq (pack (cell.now ∷ [])) (pack (Int (pos number) ∷ [])) }
-{
-    cell.known();
-    match cell {
-        Cell::Int(value) => is_same_number(value, number),
-        _ => false,
-    }
-}
-
-// Whether the cells are a primary key of the type after its number.
-fn is_key(kinds: &[Kind], cells: &[Cell]) -> bool
-    ensures { result ≡ (all_fit kinds.now cells.now && not (list_any is_null cells.now)) }
-{
-    fit(kinds, cells) && !has_null(cells)
-}
-
-// Whether the cells are the primary key of a record of the type.
-fn is_primary_key(definition: &TypeDefinition, kinds: &[Kind], cells: &[Cell]) -> bool
-    requires { kinds.now ≡ key_kinds definition.now }
-    ensures { result ≡ is_primary_key definition.now cells.now }
-{
-    match cells {
-        [] => false,
-        [number, key @ ..] => is_number(number, definition.number) && is_key(kinds, key),
-    }
-}
-
-// So many elements of a list from its begin on.
-fn first_of<T>(count: usize, items: &[T]) -> &[T]
-    ensures { result.now ≡ take count items.now }
-{
-    if count < items.len() {
-        &items[..count]
+    if number < BEYOND_CELLS {
+        strip_int(TupleInt::from(number), bytes)
     } else {
-        items
+        None
     }
 }
 
-// What stands after so many elements of a list.
-fn behind<T>(count: usize, items: &[T]) -> &[T]
-    ensures { result.now ≡ drop count items.now }
+// Whether the bytes are the pack of cells of these kinds, none of them null.
+fn is_key(alloc: Global, kinds: &[Kind], bytes: &[u8]) -> Result<bool, AllocError>
+    ensures { IfOk result (λ so. so ≡ is_pack_of
+        (λ cells. all_fit kinds.now cells && not (list_any is_null cells)) bytes.now) }
 {
-    if count < items.len() {
-        &items[count..]
-    } else {
-        &items[items.len()..]
+    let mut rest = bytes;
+    for kind in kinds {
+        match Cell::skip_value(alloc, *kind, rest)? {
+            Some(after) => rest = after,
+            None => return Ok(false),
+        }
     }
+    Ok(rest.is_empty())
 }
 
-// Whether the cells are those of an entry.
-fn is_entry(
+// Whether the bytes are the pack of the primary key of a record of the type.
+fn is_primary_key(
+    alloc: Global,
     definition: &TypeDefinition,
-    index: &IndexDefinition,
-    form: &EntryForm,
-    cells: &[Cell],
-) -> bool
-    requires columns { form.now.columns.items ≡ column_kinds definition.now index.now }
-    requires key { form.now.key.items ≡ key_kinds definition.now }
-    ensures { result ≡ is_entry definition.now index.now cells.now }
+    kinds: &[Kind],
+    bytes: &[u8],
+) -> Result<bool, AllocError>
+    requires { kinds.now ≡ key_kinds definition.now }
+    ensures { IfOk result (λ so. so ≡ is_pack_of (is_primary_key definition.now) bytes.now) }
 {
-    let count = index.columns.as_slice().len();
-    fit(form.columns.as_slice(), first_of(count, cells))
-        && is_primary_key(definition, form.key.as_slice(), behind(count, cells))
-}
-
-// Equal cells.
-fn copied(alloc: Global, cells: &[Cell]) -> Result<Cells, AllocError>
-    ensures { IfOk result (λ copy. copy ≡ cells.now) }
-{
-    let mut copies = Vec::with_capacity(alloc, cells.len())?;
-    for cell in cells {
-        copies.push(cell.copy()?)?;
+    match after_number(definition.number, bytes) {
+        Some(key) => {
+            let so = is_key(alloc, kinds, key)?;
+            Ok(so)
+        }
+        None => Ok(false),
     }
-    Ok(Cells::new(copies))
 }
 
-// The primary key in an entry with these cells, if they are those of one.
-fn primary_key_of(
+// The pack of the primary key at the end of an entry's bytes, if they are those of one.
+fn primary_key_in<'a>(
     alloc: Global,
     definition: &TypeDefinition,
     index: &IndexDefinition,
     form: &EntryForm,
-    cells: &[Cell],
-) -> Result<Option<Cells>, AllocError>
+    bytes: &'a [u8],
+) -> Result<Option<&'a [u8]>, AllocError>
     requires columns { form.now.columns.items ≡ column_kinds definition.now index.now }
     requires key { form.now.key.items ≡ key_kinds definition.now }
-    ensures { IfOk result (λ key. key ≡ (if is_entry definition.now index.now cells.now
-        then Some (drop (length index.now.columns) cells.now) else None)) }
+    ensures { IfOk result (λ found. MatchOption found
+        (entry_key_in definition.now index.now bytes.now ≡ None)
+        (λ rest. EndsWithKey definition.now index.now rest.now bytes.now)) }
 {
-    if is_entry(definition, index, form, cells) {
-        let key = copied(alloc, behind(index.columns.as_slice().len(), cells))?;
-        Ok(Some(key))
+    if form.columns.len() != index.columns.as_slice().len() {
+        return Ok(None);
+    }
+    let Some(rest) = after_columns(alloc, form.columns.as_slice(), bytes)? else {
+        return Ok(None);
+    };
+    if is_primary_key(alloc, definition, form.key.as_slice(), rest)? {
+        Ok(Some(rest))
     } else {
         Ok(None)
     }
 }
 
-// The primary key in the entry that a pair stands for, if it is of the written form.
-fn primary_key_in(
-    store: &Store,
-    definition: &TypeDefinition,
-    index: &IndexDefinition,
-    form: &EntryForm,
-    pair: &Pair,
-) -> Result<Option<Cells>, AllocError>
-    requires { IsFormOf store.now.prefix definition.now index.now form.now }
-    ensures { IfOk result (λ key. key
-        ≡ entry_primary_key store.now.prefix definition.now index.now pair.now) }
+// What stands after so many bytes.
+fn after(count: usize, bytes: &[u8]) -> &[u8]
+    ensures { result.now ≡ drop count bytes.now }
 {
-    if !pair.1.as_slice().is_empty() {
-        return Ok(None);
-    }
-    let bytes = behind(form.front.len(), pair.0.as_slice());
-    match cells_in(store.alloc(), bytes)? {
-        Some(cells) => primary_key_of(store.alloc(), definition, index, form, cells.as_slice()),
-        None => Ok(None),
+    if count < bytes.len() {
+        &bytes[count..]
+    } else {
+        &bytes[bytes.len()..]
     }
 }
 
@@ -221,10 +185,15 @@ pub(crate) fn entry_in(
     requires { IsFormOf store.now.prefix definition.now index.now form.now }
     ensures { IfOk result (λ entry. entry ≡ stored_entry store.now.prefix definition.now index.now pair.now) }
 {
-    match primary_key_in(store, definition, index, form, pair)? {
+    if !pair.1.as_slice().is_empty() {
+        return Ok(None);
+    }
+    let key = pair.0.as_slice();
+    let bytes = after(form.front.len(), key);
+    match primary_key_in(store.alloc(), definition, index, form, bytes)? {
         Some(primary_key) => {
-            let key = pair.0.copy()?;
-            Ok(Some(Entry { key, primary_key }))
+            let at = key.len() - primary_key.len();
+            Ok(Some(Entry::new(pair.0.copy()?, at)))
         }
         None => Ok(None),
     }

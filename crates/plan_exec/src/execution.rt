@@ -15,6 +15,9 @@ use record_store::{Records, Store};
 use std::alloc::AllocError;
 use txn::{Snapshot, Transaction};
 
+// Room for so many rows is made at first.
+const ROWS_ROOM: usize = 16;
+
 /// The rows of a plan over an open store, as the transaction sees it: all of them, or none.
 ///
 /// The store has the plan's type, perhaps with fields appended since, and may read each index that
@@ -48,8 +51,8 @@ pub fn execute<S: Snapshot>(
 {
     plan.query();
     let records = RecordsOf::new(store, accepted_type(store, plan)?)?;
+    let mut found = Vec::with_capacity(store.alloc(), ROWS_ROOM)?;
     let mut rows = rows_of(&records, plan.root())?;
-    let mut found = Vec::new(store.alloc());
     while let Some(row) = rows.next(tx, db)? {
         found.push(row)?;
     }

@@ -57,13 +57,13 @@ fn fetch_record<S: Snapshot>(
         entry.now)
         error tx.old tx.new) }
 {
-    let key = record_key(records.store, records.front.as_slice(), &entry.primary_key)?;
+    let key = record_key(records.store, records.front.as_slice(), entry)?;
     match tx.get(db, &key)? {
         Some(value) => {
             let row = record_of(records, &(key, value))?;
             Ok(row)
         }
-        None => Err(ExecError::Corrupt(entry.key.copy()?)),
+        None => Err(ExecError::Corrupt(entry.key().copy()?)),
     }
 }
 

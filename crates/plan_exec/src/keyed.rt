@@ -71,7 +71,7 @@ impl Keyed for Entry {
     ghost key = { λ entry. entry.primary_key };
 
     fn compare_keys(&self, other: &Entry) -> Ordering {
-        self.primary_key.compare(&other.primary_key)
+        self.primary_key().cmp(other.primary_key())
     }
 }
 

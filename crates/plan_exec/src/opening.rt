@@ -11,7 +11,7 @@ ghost use Rattle.plan_exec.specs.Streams.{pair_course, records_made};
 
 use crate::distinct::PrimaryKeys;
 use crate::fetch_streams::{FetchStream, SourceStream};
-use crate::keys::{entries_key, records_key, scan_range};
+use crate::keys::{records_key, scan_range};
 use crate::level::Level;
 use crate::readers::{EntriesOf, RecordsOf};
 use crate::record_streams::{EntryStream, RecordStream};
@@ -45,11 +45,11 @@ fn entry_stream<'a>(
         (index_scan_of scan.now)) }
 {
     let alloc = records.store.alloc();
-    let key = entries_key(records.store, &scan.index)?;
-    let range = scan_range(alloc, key.as_slice(), &scan.range)?;
+    let entries = EntriesOf::new(records, &scan.index)?;
+    let range = scan_range(alloc, entries.form.front.as_slice(), &scan.range)?;
     Ok(EntryStream {
         pairs: PairStream::new(alloc, range, scan.reverse),
-        entries: EntriesOf::new(records, &scan.index)?,
+        entries,
     })
 }
 

@@ -1,8 +1,9 @@
 // What records and entries are decoded by, once for all of a type and of an index. Used by
 // `record_streams`, `fetch_streams` and `opening`.
-ghost use Rattle.std.specs.Prelude.{◌≡◌, IfOk};
+ghost use Rattle.std.specs.Prelude.{◌≡◌, ◌++◌, List, ℕ, IfOk, IsTrue};
+ghost use Rattle.kv_core.specs.Bytes.{end_of_keys, key_lt};
 ghost use Rattle.record_store.specs.Layout.{place};
-ghost use Rattle.metadata.specs.Layout.{place_of_records};
+ghost use Rattle.metadata.specs.Layout.{entries_prefix, place_of_records};
 ghost use Rattle.plan_exec.specs.Decoding.{IsFormOf};
 
 use crate::decoding::shared;
@@ -62,6 +63,10 @@ impl<'a> EntriesOf<'a> {
         ensures typed { IfOk result (λ entries.
             entries.definition.now ≡ records.now.definition.value) }
         ensures index { IfOk result (λ entries. entries.index.now ≡ index.now) }
+        ensures front { IfOk result (λ entries. entries.form.front.items
+            ≡ entries_prefix records.now.store.now.prefix index.now.number) }
+        ensures below { IfOk result (λ entries. (rest : List ℕ) →
+            IsTrue (key_lt (entries.form.front.items ++ rest) end_of_keys)) }
     {
         let form = entry_form(records.store, &records.definition, index)?;
         Ok(EntriesOf {

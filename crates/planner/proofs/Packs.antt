@@ -4,12 +4,8 @@ use Rattle.std.proofs.Common.{sym}
 use Rattle.metadata.specs.declared.cells.Cell.TheVariants.{Null, Int, Text, Bytes}
 use Rattle.metadata.specs.Order.{is_string, open_pack}
 use Rattle.tuple_codec.specs.Spelling.{escaped}
-use Rattle.std.proofs.lemmas.List.{append-nil}
 use Rattle.metadata.specs.declared.cells.Cell.{Cell}
-use Rattle.planner.specs.Pack.{pack, pack_cell}
-
-pub pack_one : (c : Cell) → pack (c ∷ []) ≡ pack_cell c
-pack_one c = append-nil (pack_cell c)
+use Rattle.planner.specs.Pack.{pack_cell}
 
 -- the fronts of lists that end alike
 same_front : (xs ys : List ℕ) (a b : ℕ) → xs ++ a ∷ [] ≡ ys ++ b ∷ [] → xs ≡ ys

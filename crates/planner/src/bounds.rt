@@ -9,42 +9,43 @@ ghost use Rattle.planner.specs.View.{bound_of, bounds_of, fixed_cell, fixed_of, 
 use crate::fixing::{Bound, Fixed};
 use crate::matching::Match;
 use crate::plan::KeyRange;
-use metadata::{Cell, Cells};
+use metadata::Cell;
 use std::alloc::{AllocError, Global};
 use tuple_codec::{ByteString, strinc};
 
+/// Room for the pack of a cell and a byte, as long as it mostly is.
+const PACK_ROOM: usize = 16;
+
 /// The pack of a cell.
-#[tactic(auto, using(crate::proofs::Packs::pack_one))]
 fn pack_cell(alloc: Global, cell: &Cell) -> Result<Vec<u8>, AllocError>
     ensures { IfOk result (λ bytes. bytes.items ≡ pack_cell cell.now) }
 {
-    let mut cells = Vec::new(alloc);
-    cells.push(cell.copy()?)?;
-    let tuple = Cells::new(cells).tuple(alloc)?;
-    tuple_codec::pack(alloc, &tuple)
+    let mut bytes = Vec::with_capacity(alloc, PACK_ROOM)?;
+    cell.push_pack(&mut bytes)?;
+    Ok(bytes)
 }
 
-/// The pack of the cell that a column is fixed to.
-fn pack_fixed(alloc: Global, cell: Fixed) -> Result<Vec<u8>, AllocError>
-    ensures { IfOk result (λ bytes. bytes.items ≡ pack_cell (fixed_cell cell.entry)) }
+/// Adds the pack of the cell that a column is fixed to.
+fn push_fixed(cell: Fixed, into: &mut Vec<u8>) -> Result<(), AllocError>
+    ensures { OnOk result (into.new.items
+        ≡ into.old.items ++ pack_cell (fixed_cell cell.entry)) }
 {
     match cell {
-        Fixed::Null => pack_cell(alloc, &Cell::Null),
-        Fixed::Value(value) => pack_cell(alloc, value),
+        Fixed::Null => Cell::Null.push_pack(into),
+        Fixed::Value(value) => value.push_pack(into),
     }
 }
 
 /// Adds the packs of the cells that columns are fixed to.
-fn add_fixed(alloc: Global, fixed: &[(usize, Fixed)], into: &mut Vec<u8>) -> Result<(), AllocError>
+fn add_fixed(fixed: &[(usize, Fixed)], into: &mut Vec<u8>) -> Result<(), AllocError>
     ensures { OnOk result (into.new.items ≡ into.old.items
         ++ pack (map (λ f. f.1) (map fixed_of fixed.now))) }
 {
     match fixed {
         [] => Ok(()),
         [first, rest @ ..] => {
-            let bytes = pack_fixed(alloc, first.1)?;
-            into.extend_from_slice(bytes.as_slice())?;
-            add_fixed(alloc, rest, into)
+            push_fixed(first.1, into)?;
+            add_fixed(rest, into)
         }
     }
 }
@@ -180,7 +181,8 @@ fn earliest_end(
 fn behind(alloc: Global, front: &[u8], bytes: &[u8]) -> Result<ByteString, AllocError>
     ensures { IfOk result (λ joined. joined ≡ front.now ++ bytes.now) }
 {
-    let mut joined = Vec::from_slice(alloc, front)?;
+    let mut joined = Vec::with_capacity(alloc, front.len().saturating_add(bytes.len()))?;
+    joined.extend_from_slice(front)?;
     joined.extend_from_slice(bytes)?;
     Ok(ByteString::new(joined))
 }
@@ -189,8 +191,8 @@ fn behind(alloc: Global, front: &[u8], bytes: &[u8]) -> Result<ByteString, Alloc
 pub(crate) fn matched_range(alloc: Global, m: &Match) -> Result<KeyRange, AllocError>
     ensures { IfOk result (λ range. range_of range ≡ matched_range (match_of m.now)) }
 {
-    let mut front = Vec::new(alloc);
-    add_fixed(alloc, m.fixed.as_slice(), &mut front)?;
+    let mut front = Vec::with_capacity(alloc, PACK_ROOM)?;
+    add_fixed(m.fixed.as_slice(), &mut front)?;
     let begin = latest_begin(alloc, Vec::new(alloc), m.bounds.as_slice())?;
     let mut last = Vec::new(alloc);
     last.push(0xff)?;

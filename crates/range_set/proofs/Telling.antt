@@ -6,7 +6,7 @@ use Rattle.kv_core.specs.Map.{Agree, Map, pairs_in}
 use Rattle.kv_core.specs.Range.{KeyRange}
 use Rattle.kv_core.specs.Read.{range_read, read_of}
 use Rattle.kv_core.specs.declared.change.CommitRequest.{CommitRequest}
-use Rattle.cluster_core.specs.declared.answers.ReadError.{ReadError}
+use Rattle.kv_core.specs.declared.snapshot.ReadError.{ReadError}
 use Rattle.txn.specs.Reads.{has_read, seen}
 use Rattle.txn.proofs.Running.{ran_because, ran_read}
 use Rattle.range_set.specs.declared.error.RangeSetError.{RangeSetError}

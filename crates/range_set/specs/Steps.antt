@@ -4,8 +4,8 @@ use Rattle.tuple_codec.specs.Item.{Item, bytes}
 use Rattle.tuple_codec.specs.Subspace.{SpellsUnder}
 use Rattle.kv_core.specs.Bytes.{end_of_keys, key_le, key_lt}
 use Rattle.kv_core.specs.Range.{KeyRange}
-use Rattle.cluster_core.specs.declared.answers.ReadError.{ReadError}
-use Rattle.cluster_core.specs.declared.answers.ReadError.TheVariants as read
+use Rattle.kv_core.specs.declared.snapshot.ReadError.{ReadError}
+use Rattle.kv_core.specs.declared.snapshot.ReadError.TheVariants as read
 use Rattle.range_set.specs.declared.error.RangeSetError.{RangeSetError}
 use Rattle.range_set.specs.declared.error.RangeSetError.TheVariants.{Memory, Read, Corrupt}
 use Rattle.range_set.specs.Stored.{IsFirstDamaged, IsStoredRange, range_pair}

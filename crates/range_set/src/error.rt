@@ -2,8 +2,7 @@
 ghost use Rattle.std.specs.Prelude.{◌≡◌};
 ghost use Rattle.range_set.specs.Steps.{set_memory, set_read};
 
-use cluster_core::ReadError;
-use kv_core::Bytes;
+use kv_core::{Bytes, ReadError};
 use std::alloc::{AllocError, AllocFailed};
 use thiserror::Error;
 

@@ -13,10 +13,10 @@ use Rattle.cluster_core.specs.Cluster.{ClusterState, Did, HasPulled, IsAllPulled
 use Rattle.cluster_core.specs.Decision.{Cause}
 use Rattle.cluster_core.specs.Roles.{AreInOrder, PipelineState, all_handled, done_with, entries, forget, may_report, outcome, report, submit, submitted, told, told_of}
 use Rattle.cluster_core.proofs.Keeping.{length-numbered}
-use Rattle.txn.specs.Finishing.{HasGoneOn, IsUnfinished}
-use Rattle.txn.proofs.GoingOn.{finished_is, finished_told, gone_on_trans, still_answered, still_submitted}
-use Rattle.txn.proofs.Handling.{has-moved, outcome-last, stood-both, stood-from, submitted-more, told-any}
-use Rattle.txn.specs.Holds.{verdict}
+use Rattle.commits.specs.Finishing.{HasGoneOn, IsUnfinished}
+use Rattle.commits.proofs.GoingOn.{finished_is, finished_told, gone_on_trans, still_answered, still_submitted}
+use Rattle.commits.proofs.Handling.{has-moved, outcome-last, stood-both, stood-from, submitted-more, told-any}
+use Rattle.commits.specs.Holds.{verdict}
 use Rattle.record_layer.specs.declared.database.NotCommitted.{NotCommitted}
 use Rattle.record_layer.specs.declared.database.NotCommitted.TheVariants.{Conflict, Later, Refused, Unknown, Unsettled}
 use Rattle.record_layer.specs.Databases.{DatabaseView, IsFinished, IsCommittedAt, IsDatabase, IsNotCommitted, IsNotSettledAs, IsTaken, IsWaiting, last_told}

@@ -7,8 +7,8 @@ use Rattle.cluster_core.specs.declared.answers.SubmitError.TheVariants.{Memory}
 use Rattle.cluster_core.specs.Cluster.{ClusterState, IsReadable}
 use Rattle.cluster_core.specs.Roles.{PipelineState, all_handled, forget, is_caught_up, outcome, submit, submit_refusal}
 use Rattle.cluster_core.specs.Roles.{submitted}
-use Rattle.txn.specs.Finishing.{HasGoneOn, IsUnfinished}
-use Rattle.txn.specs.Holds.{verdict}
+use Rattle.commits.specs.Finishing.{HasGoneOn, IsUnfinished}
+use Rattle.commits.specs.Holds.{verdict}
 use Rattle.record_layer.specs.declared.database.NotCommitted.{NotCommitted}
 use Rattle.record_layer.specs.declared.database.NotCommitted.TheVariants.{Conflict, Later, Refused, Unknown, Unsettled}
 

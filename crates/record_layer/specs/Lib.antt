@@ -15,4 +15,4 @@ pub use Rattle.query.specs.Fields
 pub use Rattle.query.specs.Filter
 pub use Rattle.query.specs.View
 pub use Rattle.runtime.specs.Runs
-pub use Rattle.txn.specs.Holds
+pub use Rattle.commits.specs.Holds

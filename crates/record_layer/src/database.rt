@@ -4,7 +4,7 @@ ghost use Rattle.cluster_core.specs.declared.answers.Reported.TheVariants.{Commi
 ghost use Rattle.cluster_core.specs.Cluster.{HasPulled, IsReadable, with_pipeline};
 ghost use Rattle.cluster_core.specs.Configuration.{config_refusal, first_cluster};
 ghost use Rattle.cluster_core.specs.Roles.{submit};
-ghost use Rattle.txn.specs.Holds.{verdict};
+ghost use Rattle.commits.specs.Holds.{verdict};
 ghost use Rattle.record_layer.specs.Databases.{IsFinished, IsCommittedAt, IsNotCommitted};
 ghost use Rattle.record_layer.specs.Databases.{IsNotSettledAs, IsSettledAs, IsTaken};
 

@@ -3,7 +3,7 @@
 ghost use Rattle.std.specs.Prelude.{◌≡◌, IfOk, OnOk, OnErr};
 ghost use Rattle.cluster_core.specs.Cluster.{HasPulled, IsReadable, with_pipeline};
 ghost use Rattle.cluster_core.specs.Roles.{all_handled, forget, outcome, submitted};
-ghost use Rattle.txn.specs.Finishing.{HasGoneOn, IsUnfinished};
+ghost use Rattle.commits.specs.Finishing.{HasGoneOn, IsUnfinished};
 ghost use Rattle.record_layer.specs.Databases.{HaveAll};
 
 use cluster_core::{Cluster, Reported};

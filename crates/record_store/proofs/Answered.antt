@@ -1,10 +1,9 @@
 -- What calls on an open store come to, from what their reads and their writes establish.
 use Rattle.std.proofs.Common.{◌≡◌, ◌⊎◌, inl, inr, ℕ, Bool, true, false, not, cond, ◌==◌, List, [], ◌∷◌, refl, sym, ap, subst, ◌∙◌, Option, Some, None, Ok, Err, Result, append-nil, length}
 use Rattle.std.specs.Prelude.{IsNone}
-use Rattle.std.specs.List.{find, list_any}
+use Rattle.std.specs.List.{find}
 use Rattle.std.specs.Str.{bytes_eq}
 use Rattle.std.proofs.lemmas.Slice.Eq.{bytes_eq-Decides}
-use Rattle.tuple_codec.specs.Item.{Item, IsTuple}
 use Rattle.kv_core.specs.Range.{KeyRange}
 use Rattle.kv_core.specs.Map.{Map, after_all}
 use Rattle.kv_core.specs.Limits.{write_all_refusal}
@@ -12,9 +11,9 @@ use Rattle.kv_core.specs.declared.change.CommitRequest.{CommitRequest}
 use Rattle.kv_core.specs.declared.change.Mutation.{Mutation}
 use Rattle.kv_core.specs.declared.change.WriteError.{WriteError}
 use Rattle.kv_core.specs.declared.change.WriteError.TheVariants as write
-use Rattle.cluster_core.specs.declared.answers.ReadError.{ReadError}
+use Rattle.kv_core.specs.declared.snapshot.ReadError.{ReadError}
 use Rattle.txn.specs.Reads.{with_mutations}
-use Rattle.txn.specs.Refusing.{NeverRefuses}
+use Rattle.kv_core.specs.Read.{NeverRefuses}
 use Rattle.txn.proofs.Running.{ran_added, ran_because, ran_still, ran_then, ran_write}
 use Rattle.metadata.specs.declared.cells.Cell.{Cell}
 use Rattle.metadata.specs.declared.definition.TypeDefinition.{TypeDefinition}
@@ -23,9 +22,8 @@ use Rattle.metadata.specs.declared.refusal.MetadataError.TheVariants as meta
 use Rattle.metadata.specs.declared.refusal.Refusal.{Refusal}
 use Rattle.metadata.specs.declared.refusal.Refusal.TheVariants.{UnknownType}
 use Rattle.metadata.specs.Answers.{IsRefusedAs}
-use Rattle.metadata.specs.Cell.{all_fit, is_null}
-use Rattle.metadata.specs.Record.{Record, key_items, key_of, record_in}
-use Rattle.metadata.specs.Schema.{Schema, find_type, key_kinds}
+use Rattle.metadata.specs.Record.{Record, key_in, key_of, record_in}
+use Rattle.metadata.specs.Schema.{Schema, find_type}
 use Rattle.metadata.proofs.SameTypes.{same_type-Decides}
 use Rattle.record_store.specs.declared.error.StoreError.{StoreError}
 use Rattle.record_store.specs.declared.error.StoreError.TheVariants.{Memory, Read, Write, Corrupt, Refused, NoStore, AlreadyThere, OtherSchema, NotAggregate, NotReadable, WrongState, NotBuilt}
@@ -33,7 +31,7 @@ use Rattle.record_store.specs.Store.{Store}
 use Rattle.record_store.specs.Holds.{Holds, IsOfSchema}
 use Rattle.record_store.specs.Call.{AtStore, Call, IsAnswered, IsFailure, IsOpenAs, IsRefused, IsUndone, IsSound, IsUnread, Opened, Service, Footprint, IsAccepted, call_on}
 use Rattle.record_store.specs.Meaning.{Meaning, by_schema, is_own}
-use Rattle.record_store.specs.Reading.{HasNotFound, IsKeyOf}
+use Rattle.record_store.specs.Reading.{HasNotFound}
 use Rattle.record_store.specs.Steps.{DidRead, IsBeginning, no_memory, of_metadata, of_write}
 use Rattle.record_store.proofs.Stopping.{all_begin, none_begin}
 use Rattle.record_store.proofs.Creating.{is_none, of_limit}
@@ -53,27 +51,12 @@ found_own schema name type found = subst (λ n. find_type schema n ≡ Some type
         by_test true has some go = let same : one ≡ type = cc in ap (λ (t : TypeDefinition). t.name) (sym same) ∙ (bytes_eq-Decides one.name name).0 has
         by_test false has some go = go some
 
--- the primary key that key cells give is one of the type
-pub key_given : (schema : Schema) (name : List ℕ) (cells : List Cell) (type : TypeDefinition) (key : List Item) → find_type schema name ≡ Some type → key_of schema name cells ≡ Ok key → IsTuple key → IsKeyOf type key
-key_given schema name cells type key found given tuple = record { cells = cells; is = by_type (find_type schema name) refl given; tuple = tuple }
-  where
-    made : (t : TypeDefinition) → t ≡ type → ◌≡◌ {A = Result (List Item) Refusal} (Ok (key_items t.number cells)) (Ok key) → key ≡ key_items type.number cells
-    made t same is = let one : key_items t.number cells ≡ key = cc in sym one ∙ ap (λ (d : TypeDefinition). key_items d.number cells) same
+-- the primary key that key cells give, of a type that is found, or of none
+pub key_in_type : (schema : Schema) (name : List ℕ) (cells : List Cell) (type : TypeDefinition) → find_type schema name ≡ Some type → key_of schema name cells ≡ key_in type cells
+key_in_type schema name cells type found = ap (λ o. elim o [ None ↦ Err UnknownType | Some one ↦ key_in one cells ]) found
 
-    by_type : (o : Option TypeDefinition) → find_type schema name ≡ o → key_of schema name cells ≡ Ok key → key ≡ key_items type.number cells
-    by_type None none is = let no : ◌≡◌ {A = Option TypeDefinition} None (Some type) = sym none ∙ found in absurd (cc)
-    by_type (Some t) some is = by_fit (all_fit (key_kinds t) cells) refl is
-      where
-        same_type_is : t ≡ type
-        same_type_is = let both : ◌≡◌ {A = Option TypeDefinition} (Some t) (Some type) = sym some ∙ found in cc
-
-        by_null : (b : Bool) → list_any is_null cells ≡ b → all_fit (key_kinds t) cells ≡ true → key_of schema name cells ≡ Ok key → key ≡ key_items type.number cells
-        by_null true null fit is = cc
-        by_null false null fit is = let inner : ◌≡◌ {A = Result (List Item) Refusal} (Ok (key_items t.number cells)) (Ok key) = cc in made t same_type_is inner
-
-        by_fit : (b : Bool) → all_fit (key_kinds t) cells ≡ b → key_of schema name cells ≡ Ok key → key ≡ key_items type.number cells
-        by_fit false fit is = cc
-        by_fit true fit is = by_null (list_any is_null cells) refl fit is
+pub key_of_none : (schema : Schema) (name : List ℕ) (cells : List Cell) → find_type schema name ≡ None → key_of schema name cells ≡ Err UnknownType
+key_of_none schema name cells none = ap (λ o. elim o [ None ↦ Err UnknownType | Some one ↦ key_in one cells ]) none
 
 -- a record of the schema's own type: its type is found by its name
 pub own_found : (schema : Schema) (r : Record) → is_own (find_type schema r.definition.name) r ≡ true → find_type schema r.definition.name ≡ Some r.definition

@@ -9,8 +9,8 @@ use Rattle.kv_core.specs.Map.{Agree, Map}
 use Rattle.kv_core.specs.Range.{KeyRange}
 use Rattle.kv_core.specs.Read.{range_read, read_of}
 use Rattle.kv_core.specs.declared.change.CommitRequest.{CommitRequest}
-use Rattle.cluster_core.specs.declared.answers.ReadError.{ReadError}
-use Rattle.cluster_core.specs.declared.answers.ReadError.TheVariants as read
+use Rattle.kv_core.specs.declared.snapshot.ReadError.{ReadError}
+use Rattle.kv_core.specs.declared.snapshot.ReadError.TheVariants as read
 use Rattle.txn.specs.Reads.{has_read, seen}
 use Rattle.txn.proofs.Running.{ran_read, ran_still, ran_then}
 use Rattle.range_set.specs.Calls.{last_upto}
@@ -118,6 +118,17 @@ module _ (opened : Opened) (number : ℕ) (position : List ℕ) where
         let found : pairs ≡ read_of (seen old m) (upto_range place position) 1 true = says m agree ∙ ap (λ r. read_of (seen old m) r 1 true) is in (
           (λ i. range_read (is i) 1 true (found i) ∷ []) ∙ sym (ap (λ b. cond b ((last_upto place position).added (seen old m) ∷ []) []) asked),
           found ∙ sym (ap (λ b. cond b ((last_upto place position).pairs (seen old m)) []) asked),
+        ));
+  }
+
+  -- what isn't asked of another isn't read
+  pub none_asked : {maps : ℕ → Map} {old new : CommitRequest} (index : IndexDefinition) (pairs : List Pair) → asks opened number index ≡ false → pairs ≡ [] → new ≡ old → HasReadOne maps opened number position index pairs old new
+  none_asked index pairs not_asked none same = record {
+    added = [];
+    ran = ran_still same (λ m.
+        let place = built_place opened.prefix index.number in (
+          sym (ap (λ b. cond b ((last_upto place position).added m ∷ []) []) not_asked),
+          none ∙ sym (ap (λ b. cond b ((last_upto place position).pairs m) []) not_asked),
         ));
   }
 

@@ -9,7 +9,7 @@ use Rattle.kv_core.specs.declared.change.CommitRequest.{CommitRequest}
 use Rattle.kv_core.specs.declared.change.Mutation.{Mutation}
 use Rattle.kv_core.specs.declared.change.WriteError.{WriteError}
 use Rattle.kv_core.specs.declared.change.WriteError.TheVariants as write
-use Rattle.cluster_core.specs.declared.answers.ReadError.{ReadError}
+use Rattle.kv_core.specs.declared.snapshot.ReadError.{ReadError}
 use Rattle.txn.specs.Reads.{with_mutations}
 use Rattle.txn.proofs.Running.{ran_because, ran_then, ran_write}
 use Rattle.metadata.specs.Lawful.{IsLawfulSchema}

@@ -1,5 +1,5 @@
 -- The keys of a store: which lie below the end of the keys, their order, and which lie in the range of a type.
-use Rattle.std.proofs.Common.{◌≡◌, ℕ, ◌<◌, ◌^◌, Bool, true, false, not, ◌&&◌, ◌==◌, List, [], ◌∷◌, ◌++◌, refl, sym, ap, ◌∙◌, append_assoc, pos}
+use Rattle.std.proofs.Common.{◌≡◌, ℕ, ◌<◌, ◌^◌, Bool, true, false, not, ◌&&◌, ◌==◌, List, [], ◌∷◌, ◌++◌, refl, sym, ap, ◌∙◌, append_assoc, pos, drop, length}
 use Rattle.std.specs.declared.cmp.Ordering.{Ordering}
 use Rattle.std.specs.declared.cmp.Ordering.TheVariants.{Less, Equal, Greater}
 use Rattle.std.specs.Ordering.{nat_cmp, ordering_then, is_lt, is_eq}
@@ -19,8 +19,11 @@ use Rattle.kv_core.specs.Bytes.{key_cmp, key_le, key_lt, end_of_keys}
 use Rattle.kv_core.specs.Range.{KeyRange, contains, is_key_range}
 use Rattle.kv_core.proofs.Order.{le_from_lt}
 use Rattle.index_maint.specs.Layout.{entries_prefix}
+use Rattle.index_maint.specs.Built.{position_of}
+use Rattle.std.proofs.Math.Seq.{drop-append_seam}
+use Rattle.record_store.specs.BuiltReading.{position_in}
 use Rattle.record_store.specs.Building.{positions_range}
-use Rattle.record_store.specs.Layout.{built_place, built_range, entries_range, state_key, place, record_key, schema_key, states_range, type_range}
+use Rattle.record_store.specs.Layout.{built_place, built_range, entries_range, packed_in, state_key, place, record_key, schema_key, states_range, type_range}
 
 -- ---- below the end
 
@@ -162,6 +165,17 @@ module _ (prefix : List ℕ) where
       ∙ (λ i. (and_parts (key_le range.begin range.end) (key_le range.end end_of_keys) lawful).0 i && key_le (record_key prefix (int (pos n) ∷ []) ++ range.end) end_of_keys)
       ∙ le_from_lt (record_key prefix (int (pos n) ∷ []) ++ range.end) end_of_keys
       (ap (λ k. key_lt k end_of_keys) (behind_type n range.end) ∙ below_with prefix (int_spelling (pos 1) ++ (int_spelling (pos n) ++ range.end)) p refl)
+
+  -- the position of a record of type n is what stands in its key after the number
+  pub position_is : (n : ℕ) (cells : List Item) → position_in prefix n (record_key prefix (int (pos n) ∷ cells)) ≡ position_of (int (pos n) ∷ cells)
+  position_is n cells =
+      ap (drop (length (record_key prefix (int (pos n) ∷ [])))) (sym (behind_type n (spelling cells)))
+      ∙ drop-append_seam (record_key prefix (int (pos n) ∷ [])) (spelling cells)
+
+  -- what stands in the key of a record behind the place of records is the pack of its primary key
+  pub packed_is : (key : List Item) → packed_in prefix (record_key prefix key) ≡ spelling key
+  unfolding int_spelling written.byte_count
+  packed_is key = ap (drop 2) (drop-append_seam prefix (0x15 ∷ 0x01 ∷ spelling key))
 
   -- the ends of the states' range, behind the prefix
   pub states_end_is : (b : ℕ) → place prefix 5 ++ b ∷ [] ≡ prefix ++ (0x15 ∷ 0x05 ∷ b ∷ [])

@@ -15,6 +15,7 @@ pub mod Reopening
 pub mod Creating
 pub mod Answered
 pub mod RecordCalls
+pub mod Loads
 pub mod Saves
 pub mod Removes
 pub mod Scanning

@@ -7,7 +7,7 @@ use Rattle.tuple_codec.specs.Spelling.{int_spelling, spelling}
 use Rattle.kv_core.specs.Range.{KeyRange, point}
 use Rattle.kv_core.specs.Map.{Map, pairs_in}
 use Rattle.kv_core.specs.declared.change.CommitRequest.{CommitRequest}
-use Rattle.cluster_core.specs.declared.answers.ReadError.{ReadError}
+use Rattle.kv_core.specs.declared.snapshot.ReadError.{ReadError}
 use Rattle.txn.proofs.Running.{ran_because}
 use Rattle.metadata.specs.declared.definition.TypeDefinition.{TypeDefinition}
 use Rattle.metadata.specs.Lawful.{IsLawfulSchema}
@@ -31,6 +31,15 @@ use Rattle.record_store.proofs.RecordPairs.{all_written, at_key, key_form, no_re
 -- the pairs read at one key
 pub read_at : (m : Map) (key : List ℕ) (value : Option (List ℕ)) → get m key ≡ value → read_in m (point key ∷ []) ≡ at_key key value
 read_at m key value is = append-nil (pairs_in m (point key)) ∙ pairs_at m key value is
+
+-- the read of a key is that of an equal one
+pub key_read : {maps : ℕ → Map} {old new : CommitRequest} (key other : List ℕ) (value : Option (List ℕ)) → key ≡ other → DidRead maps (point key ∷ []) old new (λ m. value ≡ get m key) →
+    DidRead maps (point other ∷ []) old new (λ m. value ≡ get m other)
+key_read {maps = maps} {old = old} {new = new} key other value is = subst (λ k. DidRead maps (point k ∷ []) old new (λ m. value ≡ get m k)) is
+
+pub key_not_read : {maps : ℕ → Map} {refuses : KeyRange → ℕ → ReadError → Type 0} {old new : CommitRequest} (key other : List ℕ) (error : StoreError) → key ≡ other → HasNotRead maps refuses (point key ∷ []) error old new →
+    HasNotRead maps refuses (point other ∷ []) error old new
+key_not_read {maps = maps} {refuses = refuses} {old = old} {new = new} key other error is = subst (λ k. HasNotRead maps refuses (point k ∷ []) error old new) is
 
 module _ (opened : Opened) (type : TypeDefinition) (key : List Item) (lawful : IsLawfulSchema opened.schema) (found_type : find_type opened.schema type.name ≡ Some type) (key_of : IsKeyOf type key) where
   own : IsTypeOf opened.schema type

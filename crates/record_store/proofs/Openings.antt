@@ -7,7 +7,7 @@ use Rattle.kv_core.specs.Range.{KeyRange, contains, point}
 use Rattle.kv_core.specs.Map.{Map, pairs_in}
 use Rattle.kv_core.specs.declared.change.CommitRequest.{CommitRequest}
 use Rattle.kv_core.proofs.Pairs.{entries-kept}
-use Rattle.cluster_core.specs.declared.answers.ReadError.{ReadError}
+use Rattle.kv_core.specs.declared.snapshot.ReadError.{ReadError}
 use Rattle.txn.proofs.Running.{ran_because, ran_then}
 use Rattle.metadata.specs.declared.index.State.{State}
 use Rattle.metadata.specs.Lawful.{IsLawfulSchema}

@@ -16,7 +16,7 @@ use Rattle.kv_core.specs.declared.change.CommitRequest.{CommitRequest}
 use Rattle.kv_core.proofs.Lists.{All-take}
 use Rattle.kv_core.proofs.Order.{le_trans, lt_le_trans}
 use Rattle.kv_core.proofs.Stored.{pairs_in-stored}
-use Rattle.cluster_core.specs.declared.answers.ReadError.{ReadError}
+use Rattle.kv_core.specs.declared.snapshot.ReadError.{ReadError}
 use Rattle.txn.specs.Reads.{has_read, seen}
 use Rattle.txn.proofs.Running.{ran_read}
 use Rattle.metadata.specs.declared.definition.TypeDefinition.{TypeDefinition}

@@ -13,8 +13,8 @@ use Rattle.kv_core.specs.declared.change.CommitRequest.{CommitRequest}
 use Rattle.kv_core.specs.declared.change.Mutation.{Mutation}
 use Rattle.kv_core.proofs.Changes.{after_all-append, pairs_in-same, same-after_all}
 use Rattle.kv_core.proofs.Order.{contains-point}
-use Rattle.cluster_core.specs.declared.answers.ReadError.{ReadError}
-use Rattle.cluster_core.specs.declared.answers.ReadError.TheVariants as read
+use Rattle.kv_core.specs.declared.snapshot.ReadError.{ReadError}
+use Rattle.kv_core.specs.declared.snapshot.ReadError.TheVariants as read
 use Rattle.txn.specs.Reads.{seen}
 use Rattle.txn.specs.Runs.{Ran, with_ranges}
 use Rattle.txn.proofs.Deciding.{covers-with_range}

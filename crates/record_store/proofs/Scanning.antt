@@ -9,7 +9,7 @@ use Rattle.kv_core.specs.Map.{Map, Agree, pairs_in}
 use Rattle.kv_core.specs.Read.{range_read, read_of}
 use Rattle.kv_core.specs.declared.change.CommitRequest.{CommitRequest}
 use Rattle.kv_core.proofs.Lists.{All-take}
-use Rattle.cluster_core.specs.declared.answers.ReadError.{ReadError}
+use Rattle.kv_core.specs.declared.snapshot.ReadError.{ReadError}
 use Rattle.txn.specs.Reads.{has_read, seen}
 use Rattle.txn.proofs.Running.{ran_added, ran_read}
 use Rattle.metadata.specs.declared.definition.TypeDefinition.{TypeDefinition}

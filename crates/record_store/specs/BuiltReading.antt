@@ -1,5 +1,5 @@
 -- What a writer of a record reads of the built positions of write-only indexes.
-use Rattle.std.specs.Prelude.{ℕ, Bool, true, false, ◌==◌, ◌&&◌, pos, List, [], ◌∷◌, None, if◌then◌else◌}
+use Rattle.std.specs.Prelude.{ℕ, Bool, true, false, ◌==◌, ◌&&◌, pos, List, [], ◌∷◌, None, if◌then◌else◌, drop, length}
 use Rattle.std.specs.List.{flat_map}
 use Rattle.tuple_codec.specs.Item.{Item, int}
 use Rattle.kv_core.specs.Map.{Map}
@@ -11,6 +11,7 @@ use Rattle.metadata.specs.declared.index.State.{State}
 use Rattle.metadata.specs.declared.index.State.TheVariants.{Readable, WriteOnly, Disabled}
 use Rattle.range_set.specs.Calls.{last_upto}
 use Rattle.record_store.specs.Call.{Opened, Reading}
+use Rattle.metadata.specs.Layout.{records_prefix}
 use Rattle.record_store.specs.Layout.{built_place}
 use Rattle.record_store.specs.Store.{state_in}
 
@@ -21,6 +22,10 @@ is_asked Disabled kind = false
 is_asked WriteOnly Value = false
 is_asked WriteOnly Count = true
 is_asked WriteOnly Sum = true
+
+-- Private: what stands in the key of a record after the number of its type
+abbrev pub position_in : List ℕ → ℕ → List ℕ → List ℕ
+position_in prefix number key = drop (length (records_prefix prefix number)) key
 
 -- the number of the type in a primary key
 abbrev pub type_number_in : List Item → ℕ

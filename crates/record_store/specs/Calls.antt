@@ -15,7 +15,7 @@ use Rattle.metadata.specs.declared.refusal.Refusal.{Refusal}
 use Rattle.metadata.specs.declared.refusal.Refusal.TheVariants.{UnknownIndex}
 use Rattle.metadata.specs.Change.{add_field, add_type}
 use Rattle.metadata.specs.IndexChange.{new_index, with_index, without_index}
-use Rattle.metadata.specs.Record.{Record, key_of, primary_key}
+use Rattle.metadata.specs.Record.{Record, key_of, primary_key, record_of}
 use Rattle.metadata.specs.Records.{record_at}
 use Rattle.metadata.specs.Schema.{Schema, find_index, find_type}
 use Rattle.metadata.specs.Written.{schema_bytes}
@@ -51,6 +51,11 @@ save_footprint opened r = record {
 
 abbrev pub save_call : Opened → Record → Call (Option Record)
 save_call opened r = call_on save_meaning (save_footprint opened) (own_record opened.schema r)
+
+-- so of the record that the schema makes of cells
+abbrev pub save_as_call : Opened → List ℕ → List Cell → Call (Option Record)
+save_as_call opened name cells =
+    call_on save_meaning (save_footprint opened) (by_schema (record_of opened.schema name cells))
 
 -- REMOVE: the record's indexes follow; where it is there is read whether its position is built
 abbrev pub remove_footprint : Opened → List Item → Footprint

@@ -1,5 +1,5 @@
 -- The keys and values that stand for a store under its prefix.
-use Rattle.std.specs.Prelude.{ℕ, Bool, ◌&&◌, nat_le, List, [], ◌∷◌, ◌++◌, pos}
+use Rattle.std.specs.Prelude.{ℕ, Bool, ◌&&◌, nat_le, List, [], ◌∷◌, ◌++◌, pos, drop, length}
 use Rattle.tuple_codec.specs.Codes.{highest_byte}
 use Rattle.tuple_codec.specs.Item.{int}
 use Rattle.tuple_codec.specs.Spelling.{spelling}
@@ -29,6 +29,11 @@ first_prefix = 0x15 ∷ 0x01 ∷ []
 -- the key (0) of the schema
 abbrev pub schema_key : List ℕ → List ℕ
 schema_key prefix = place prefix place_of_schema
+
+-- Private: what stands in a key after the prefix and the 2 bytes of the place of records: in that of a record the
+-- pack of its primary key
+abbrev pub packed_in : List ℕ → List ℕ → List ℕ
+packed_in prefix key = drop 2 (drop (length prefix) key)
 
 -- the range of the place (5), for the states of indexes
 abbrev pub states_range : List ℕ → KeyRange

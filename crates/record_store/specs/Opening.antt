@@ -7,7 +7,7 @@ use Rattle.kv_core.specs.Map.{Agree, Map, after_all, pairs_in}
 use Rattle.kv_core.specs.Limits.{write_all_refusal}
 use Rattle.kv_core.specs.declared.change.CommitRequest.{CommitRequest}
 use Rattle.kv_core.specs.declared.change.Mutation.{Mutation}
-use Rattle.cluster_core.specs.declared.answers.ReadError.{ReadError}
+use Rattle.kv_core.specs.declared.snapshot.ReadError.{ReadError}
 use Rattle.txn.specs.Reads.{seen}
 use Rattle.txn.specs.Runs.{Ran}
 use Rattle.metadata.specs.Lawful.{IsLawfulSchema}

@@ -1,41 +1,32 @@
 // What a writer of a record reads of the built positions of write-only indexes. Called by `save`,
 // `remove` and `following`.
-ghost use Rattle.std.specs.Prelude.{◌≡◌, ◌==◌, ◌&&◌, ◌∷◌, [], List, map, IfErr, IfOk};
+ghost use Rattle.std.specs.Prelude.{◌≡◌, ◌==◌, ◌&&◌, ◌∷◌, [], map, IfErr, IfOk};
 ghost use Rattle.std.specs.List.{Contains};
-ghost use Rattle.metadata.specs.Record.{key_items};
-ghost use Rattle.metadata.specs.declared.cells.Cell.{Cell};
-ghost use Rattle.index_maint.specs.Built.{position_of};
-ghost use Rattle.record_store.specs.BuiltReading.{asks, built_reading, is_asked};
+ghost use Rattle.record_store.specs.BuiltReading.{asks, built_reading, is_asked, position_in};
 ghost use Rattle.record_store.specs.Reading.{HasReadBuilt, HasReadOne, IsToldOf, IsUntoldOf};
 ghost use Rattle.record_store.specs.Reading.{ReadsHaveStopped};
 
 use crate::error::StoreError;
-use crate::layout::number_tuple;
+use crate::layout::{records_prefix, without_first};
 use crate::store::Store;
 use index_maint::built_place;
-use kv_core::Pair;
+use kv_core::{Bytes, Pair};
 use metadata::{IndexDefinition, IndexKind, State};
 use range_set::{position_told, upto_range};
 use std::alloc::{AllocError, Global};
-use tuple_codec::{Tuple, pack};
 use txn::{Snapshot, Transaction};
 
-// The position of a primary key of the type with this number: what is after the number in its pack.
-pub(crate) fn position_of(
+// The position of a record of the type with this number, by its key.
+fn position_in<'a>(
     alloc: Global,
+    prefix: &[u8],
     number: u64,
-    primary_key: &Tuple,
-) -> Result<Vec<u8>, AllocError>
-    ensures { IfOk result (λ position. (cells : List Cell) → primary_key.now ≡ key_items number cells →
-        position.items ≡ position_of primary_key.now) }
+    key: &'a Bytes,
+) -> Result<&'a [u8], AllocError>
+    ensures { IfOk result (λ position. position.now ≡ position_in prefix.now number key.now) }
 {
-    let number_alone = number_tuple(alloc, number)?;
-    let before = pack(alloc, &number_alone)?;
-    let whole = pack(alloc, primary_key)?;
-    match whole.get(before.len()..) {
-        Some(position) => Vec::from_slice(alloc, position),
-        None => Ok(Vec::new(alloc)),
-    }
+    let front = records_prefix(alloc, prefix, number)?;
+    Ok(without_first(key.as_slice(), front.len()))
 }
 
 // Whether a writer reads of an index of this kind in this state whether its position is built.
@@ -67,43 +58,50 @@ impl Store {
         tx: &mut Transaction,
         db: &S,
         number: u64,
-        position: &[u8],
+        key: &Bytes,
         index: &IndexDefinition,
     ) -> Result<Vec<Pair>, StoreError>
         ensures read { IfOk result (λ pairs.
-            HasReadOne (S.map_at db.now) self.now number position.now index.now pairs.items tx.old tx.new) }
+            HasReadOne (S.map_at db.now) self.now number
+            (position_in self.now.prefix number key.now)
+            index.now pairs.items tx.old tx.new) }
         ensures refused { IfErr result (λ error.
             ReadsHaveStopped (S.map_at db.now) (S.may_refuse db.now)
-            (built_reading self.now number position.now (index.now ∷ [])) error tx.old tx.new) }
+            (built_reading self.now number (position_in self.now.prefix number key.now)
+            (index.now ∷ [])) error tx.old tx.new) }
     {
         let alloc = self.alloc();
         if !self.asks(number, index) {
             return Ok(Vec::new(alloc));
         }
-        let place = built_place(alloc, self.prefix(), index.number)?;
+        let prefix = self.prefix();
+        let place = built_place(alloc, prefix, index.number)?;
+        let position = position_in(alloc, prefix, number, key)?;
         let range = upto_range(alloc, place.as_slice(), position)?;
         let pairs = tx.get_range(db, &range, 1, true)?;
         Ok(pairs)
     }
 
-    // So of all indexes of the schema, in their order.
+    // So of all indexes of the schema, in their order, for a record with this key.
     pub(crate) fn read_built<S: Snapshot>(
         &self,
         tx: &mut Transaction,
         db: &S,
         number: u64,
-        position: &[u8],
+        key: &Bytes,
     ) -> Result<Vec<Vec<Pair>>, StoreError>
         ensures read { IfOk result (λ found.
-            HasReadBuilt (S.map_at db.now) self.now number position.now self.now.schema.indexes
+            HasReadBuilt (S.map_at db.now) self.now number
+            (position_in self.now.prefix number key.now) self.now.schema.indexes
             (map (λ pairs. pairs.items) found.items) tx.old tx.new) }
         ensures refused { IfErr result (λ error.
             ReadsHaveStopped (S.map_at db.now) (S.may_refuse db.now)
-            (built_reading self.now number position.now self.now.schema.indexes) error tx.old tx.new) }
+            (built_reading self.now number (position_in self.now.prefix number key.now)
+            self.now.schema.indexes) error tx.old tx.new) }
     {
         let mut found = Vec::new(self.alloc());
         for index in self.schema().indexes() {
-            let pairs = self.read_one_built(tx, db, number, position, index)?;
+            let pairs = self.read_one_built(tx, db, number, key, index)?;
             found.push(pairs)?;
         }
         Ok(found)
@@ -113,19 +111,23 @@ impl Store {
     pub(crate) fn is_built(
         &self,
         number: u64,
-        position: &[u8],
+        key: &Bytes,
         index: &IndexDefinition,
         found: &[Pair],
     ) -> Result<bool, StoreError>
         requires { Contains self.now.schema.indexes index.now }
-        ensures told { IfOk result (IsToldOf self.now number position.now index.now found.now) }
-        ensures refused { IfErr result (IsUntoldOf self.now number position.now index.now found.now) }
+        ensures told { IfOk result (IsToldOf self.now number
+            (position_in self.now.prefix number key.now) index.now found.now) }
+        ensures refused { IfErr result (IsUntoldOf self.now number
+            (position_in self.now.prefix number key.now) index.now found.now) }
     {
         if !self.asks(number, index) {
             return Ok(false);
         }
         let alloc = self.alloc();
-        let place = built_place(alloc, self.prefix(), index.number)?;
+        let prefix = self.prefix();
+        let place = built_place(alloc, prefix, index.number)?;
+        let position = position_in(alloc, prefix, number, key)?;
         let told = position_told(alloc, place.as_slice(), found, position)?;
         Ok(told)
     }

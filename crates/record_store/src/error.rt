@@ -3,8 +3,7 @@
 ghost use Rattle.std.specs.Prelude.{◌≡◌};
 ghost use Rattle.record_store.specs.Steps.{no_memory, of_metadata, of_read, of_set, of_write};
 
-use cluster_core::ReadError;
-use kv_core::{Bytes, WriteError};
+use kv_core::{Bytes, ReadError, WriteError};
 use metadata::{MetadataError, Refusal};
 use range_set::RangeSetError;
 use std::alloc::{AllocError, AllocFailed};

@@ -4,7 +4,7 @@ ghost use Rattle.kv_core.specs.Map.{Map};
 ghost use Rattle.metadata.specs.Answers.{IsRefusedAs};
 ghost use Rattle.metadata.specs.Change.{add_field};
 ghost use Rattle.metadata.specs.Lawful.{IsLawfulSchema};
-ghost use Rattle.txn.specs.Refusing.{NeverRefuses};
+ghost use Rattle.kv_core.specs.Read.{NeverRefuses};
 ghost use Rattle.record_store.specs.Call.{IsAnswered, IsRefused};
 ghost use Rattle.record_store.specs.Calls.{field_call};
 

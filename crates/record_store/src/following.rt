@@ -2,6 +2,7 @@
 // index also by other modules here and by `plan_exec`.
 ghost use Rattle.std.specs.Prelude.{◌≡◌, ◌==◌, ◌++◌, [], IfErr, IfOk, OnOk, find, get_or, map};
 ghost use Rattle.std.specs.Option.{option_copied};
+ghost use Rattle.record_store.specs.BuiltReading.{position_in};
 ghost use Rattle.record_store.specs.IndexWrites.{one_index_writes};
 ghost use Rattle.record_store.specs.Reading.{HaveFollowed, HaveNotFollowed};
 ghost use Rattle.record_store.specs.Store.{state_in};
@@ -9,7 +10,7 @@ ghost use Rattle.record_store.specs.Store.{state_in};
 use crate::error::StoreError;
 use crate::store::Store;
 use index_maint::push_kept_changes;
-use kv_core::{Mutation, Pair};
+use kv_core::{Bytes, Mutation, Pair};
 use metadata::{IndexDefinition, RecordRef, State};
 use std::alloc::AllocError;
 
@@ -65,26 +66,27 @@ impl Store {
         Ok(())
     }
 
-    // Puts what the indexes of the type with this number want written where one record of it at this
-    // position gives way to another, by what was found of their built ranges.
+    // Puts what the indexes of the type with this number want written where one record of it with this
+    // key gives way to another, by what was found of their built ranges.
     pub(crate) fn push_index_changes(
         &self,
         number: u64,
-        position: &[u8],
+        key: &Bytes,
         found: &[Vec<Pair>],
         old: Option<&RecordRef<'_>>,
         new: Option<&RecordRef<'_>>,
         mutations: &mut Vec<Mutation>,
     ) -> Result<(), StoreError>
-        ensures followed { OnOk result (HaveFollowed self.now number position.now (option_copied old.entry)
-            (option_copied new.entry) (map (λ pairs. pairs.items) found.now) self.now.schema.indexes
+        ensures followed { OnOk result (HaveFollowed self.now number
+            (position_in self.now.prefix number key.now) (option_copied old.entry) (option_copied new.entry)
+            (map (λ pairs. pairs.items) found.now) self.now.schema.indexes
             mutations.old.items mutations.new.items) }
-        ensures refused { IfErr result (HaveNotFollowed self.now number position.now
-            (map (λ pairs. pairs.items) found.now)) }
+        ensures refused { IfErr result (HaveNotFollowed self.now number
+            (position_in self.now.prefix number key.now) (map (λ pairs. pairs.items) found.now)) }
     {
         for (at, index) in self.schema().indexes().iter().enumerate() {
             let pairs = found_at(found, at);
-            let at_built = self.is_built(number, position, index, pairs)?;
+            let at_built = self.is_built(number, key, index, pairs)?;
             self.push_changes_of(index, number, at_built, old, new, mutations)?;
         }
         Ok(())

@@ -13,7 +13,7 @@ ghost use Rattle.metadata.specs.Written.{schema_bytes};
 ghost use Rattle.record_store.specs.IndexWrites.{clear_kept};
 ghost use Rattle.record_store.specs.Layout.{built_range, entries_range, schema_key, state_key};
 ghost use Rattle.record_store.specs.Store.{listed_by, altered_at, state_in};
-ghost use Rattle.txn.specs.Refusing.{NeverRefuses};
+ghost use Rattle.kv_core.specs.Read.{NeverRefuses};
 ghost use Rattle.record_store.specs.Call.{IsAnswered, IsRefused};
 ghost use Rattle.record_store.specs.Calls.{drop_call};
 ghost use Rattle.record_store.specs.Calls.{index_states, opened_without, state_named};

@@ -16,14 +16,14 @@ use crate::store::{lawful_known, shared_schema};
 use kv_core::{Bytes, Pair};
 use metadata::{MetadataError, Schema, State};
 use std::alloc::{AllocError, Global};
-use std::rc::Rc;
+use std::sync::Arc;
 
 // A schema and the bytes that stand for it; and the states of its indexes, with the pairs that
 // stand for them under a prefix.
 #[derive(Drop)]
 pub(crate) struct Written {
     bytes: Bytes,
-    schema: Rc<Schema>,
+    schema: Arc<Schema>,
     prefix: Vec<u8>,
     pairs: Vec<Pair>,
     states: Vec<(u64, State)>,
@@ -68,7 +68,7 @@ impl KnownSchema {
     }
 
     // The schema of these bytes, where it is the one that is known.
-    fn known(&self, bytes: &Bytes) -> Result<Option<Rc<Schema>>, AllocError>
+    fn known(&self, bytes: &Bytes) -> Result<Option<Arc<Schema>>, AllocError>
         ensures made { IfOk result (λ found. IfSome found (λ schema. IsLawfulSchema schema.value)) }
         ensures bytes { IfOk result (λ found. IfSome found (λ schema. bytes.now ≡ schema_bytes schema.value)) }
         ensures known { IfOk result (λ found. IfSome found (λ schema.
@@ -86,7 +86,7 @@ impl KnownSchema {
         alloc: Global,
         prefix: &[u8],
         bytes: Bytes,
-    ) -> Result<Rc<Schema>, StoreError>
+    ) -> Result<Arc<Schema>, StoreError>
         requires { IsTrue (key_lt prefix.now end_of_keys) }
         ensures made { IfOk result (λ schema. IsLawfulSchema schema.value) }
         ensures bytes { IfOk result (λ schema. bytes ≡ schema_bytes schema.value) }
@@ -169,7 +169,7 @@ impl KnownSchema {
 
 impl Written {
     // The schema, where these are its bytes.
-    fn of_bytes(&self, bytes: &Bytes) -> Result<Option<Rc<Schema>>, AllocError>
+    fn of_bytes(&self, bytes: &Bytes) -> Result<Option<Arc<Schema>>, AllocError>
         ensures made { IfOk result (λ found. IfSome found (λ schema. IsLawfulSchema schema.value)) }
         ensures bytes { IfOk result (λ found. IfSome found (λ schema. bytes.now ≡ schema_bytes schema.value)) }
         ensures known { IfOk result (λ found.

@@ -1,24 +1,43 @@
 // The keys and values of a store. Called by the modules here that read or write pairs.
-ghost use Rattle.std.specs.Prelude.{◌≡◌, ◌∷◌, [], All, IfOk, IsTrue, OnOk, pos};
-ghost use Rattle.tuple_codec.specs.Item.{int};
+ghost use Rattle.std.specs.Prelude.{◌≡◌, ◌∷◌, [], All, Ok, IfErr, IfOk, IsTrue, OnOk, drop, pos};
+ghost use Rattle.tuple_codec.specs.Item.{IsTuple, int};
 ghost use Rattle.kv_core.specs.Bytes.{end_of_keys, key_lt};
 ghost use Rattle.kv_core.specs.Range.{is_key_range};
+ghost use Rattle.metadata.specs.Answers.{IsRefusedAs};
 ghost use Rattle.metadata.specs.Cell.{IsCell};
+ghost use Rattle.metadata.specs.Layout.{records_prefix};
+ghost use Rattle.metadata.specs.Record.{key_in, key_items, primary_key as primary_key_of};
 ghost use Rattle.record_store.specs.Building.{positions_range};
-ghost use Rattle.record_store.specs.Layout.{built_range, entries_range, place, record_key, record_value, schema_key};
-ghost use Rattle.record_store.specs.Layout.{state_key, state_number, state_value, states_range, type_range};
+ghost use Rattle.record_store.specs.Layout.{built_range, entries_range, packed_in, place, record_key, record_value};
+ghost use Rattle.record_store.specs.Layout.{schema_key, state_key, state_number, state_value, states_range, type_range};
 
 use index_maint::{built_place, entries_prefix};
 use kv_core::{Bytes, KeyRange};
-use metadata::{Cells, PLACE_OF_RECORDS, PLACE_OF_SCHEMA, PLACE_OF_STATES, State};
+use metadata::{
+    Cells, MetadataError, PLACE_OF_RECORDS, PLACE_OF_SCHEMA, PLACE_OF_STATES, RecordRef, State,
+    TypeDefinition,
+};
 use std::alloc::{AllocError, Global};
 use tuple_codec::{Element, Subspace, Tuple, TupleInt, pack, pack_int, pack_into};
 
-// Room for a key behind a store's prefix, as long as it mostly is.
+// Room for a key after a store's prefix, as long as it mostly is.
 const KEY_ROOM: usize = 32;
 
 // Room for the value of a record, as long as it mostly is.
 const VALUE_ROOM: usize = 64;
+
+// How many bytes the pack of the place of records has.
+const RECORDS_PLACE_SIZE: usize = 2;
+
+// What stands after the first bytes, so many.
+pub(crate) fn without_first(bytes: &[u8], count: usize) -> &[u8]
+    ensures { result.now ≡ drop count bytes.now }
+{
+    match bytes.get(count..) {
+        Some(rest) => rest,
+        None => &[],
+    }
+}
 
 // The tuple of a number alone.
 pub(crate) fn number_tuple(alloc: Global, number: u64) -> Result<Tuple, AllocError>
@@ -77,6 +96,64 @@ pub(crate) fn record_key(
     let mut key = place(alloc, prefix, PLACE_OF_RECORDS)?;
     pack_into(primary_key, &mut key)?;
     Ok(Bytes::new(key))
+}
+
+/// The key of a record.
+pub(crate) fn key_of_record(
+    alloc: Global,
+    prefix: &[u8],
+    lent: &RecordRef<'_>,
+) -> Result<Bytes, AllocError>
+    requires { IsTrue (key_lt prefix.now end_of_keys) }
+    ensures key { IfOk result (λ key. key ≡ record_key prefix.now (primary_key_of lent.now)) }
+    ensures below { IfOk result (λ key. IsTrue (key_lt key end_of_keys)) }
+    ensures is_tuple { OnOk result (IsTuple (primary_key_of lent.now)) }
+{
+    let mut at = place(alloc, prefix, PLACE_OF_RECORDS)?;
+    lent.push_primary_key(&mut at)?;
+    Ok(Bytes::new(at))
+}
+
+/// The key of the record of this type with these key cells. Refused as `push_key` is.
+pub(crate) fn key_asked(
+    alloc: Global,
+    prefix: &[u8],
+    definition: &TypeDefinition,
+    cells: &Cells,
+) -> Result<Bytes, MetadataError>
+    requires { IsTrue (key_lt prefix.now end_of_keys) }
+    ensures key { IfOk result (λ key.
+        key ≡ record_key prefix.now (key_items definition.now.number cells.now)) }
+    ensures below { IfOk result (λ key. IsTrue (key_lt key end_of_keys)) }
+    ensures made { OnOk result (key_in definition.now cells.now
+        ≡ Ok (key_items definition.now.number cells.now)) }
+    ensures is_tuple { OnOk result (IsTuple (key_items definition.now.number cells.now)) }
+    ensures refused { IfErr result (λ error. IsRefusedAs error (key_in definition.now cells.now)) }
+{
+    let mut asked = place(alloc, prefix, PLACE_OF_RECORDS)?;
+    definition.push_key(cells, &mut asked)?;
+    Ok(Bytes::new(asked))
+}
+
+/// The pack of the primary key in the key of a record.
+pub(crate) fn packed_in<'a>(prefix: &[u8], key: &'a Bytes) -> &'a [u8]
+    ensures { result.now ≡ packed_in prefix.now key.now }
+{
+    let rest = without_first(key.as_slice(), prefix.len());
+    without_first(rest, RECORDS_PLACE_SIZE)
+}
+
+/// What the key of each record of the type with this number begins with.
+pub(crate) fn records_prefix(
+    alloc: Global,
+    prefix: &[u8],
+    number: u64,
+) -> Result<Vec<u8>, AllocError>
+    ensures { IfOk result (λ front. front.items ≡ records_prefix prefix.now number) }
+{
+    let mut front = place(alloc, prefix, PLACE_OF_RECORDS)?;
+    pack_int(TupleInt::from(number), &mut front)?;
+    Ok(front)
 }
 
 /// The value of a record with these cells.

@@ -3,7 +3,7 @@
 ghost use Rattle.std.specs.Prelude.{◌≡◌, ℕ, Err, IfErr, IfOk, Ok, OnErr, OnOk};
 ghost use Rattle.kv_core.specs.Map.{Map};
 ghost use Rattle.metadata.specs.Schema.{find_index};
-ghost use Rattle.txn.specs.Refusing.{NeverRefuses};
+ghost use Rattle.kv_core.specs.Read.{NeverRefuses};
 ghost use Rattle.record_store.specs.Call.{IsAnswered, IsRefused};
 ghost use Rattle.record_store.specs.Calls.{disable_call, mark_call, readable_call, write_only_call};
 ghost use Rattle.record_store.specs.Calls.{opened_marked};

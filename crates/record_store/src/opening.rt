@@ -18,7 +18,7 @@ use crate::store::Store;
 use kv_core::{Bytes, KeyRange, Pair};
 use metadata::Schema;
 use std::alloc::{AllocError, Global};
-use std::rc::Rc;
+use std::sync::Arc;
 use txn::{Snapshot, Transaction};
 
 /// What an opening reads under a prefix: the point of the schema's key, and the states' range.
@@ -91,7 +91,7 @@ fn schema_found(
     prefix: &[u8],
     known: &mut KnownSchema,
     written: Option<Bytes>,
-) -> Result<Rc<Schema>, StoreError>
+) -> Result<Arc<Schema>, StoreError>
     requires { IsTrue (key_lt prefix.now end_of_keys) }
     ensures found { IfOk result (λ schema. IsSchema written schema.value) }
     ensures known { IfOk result (λ schema.

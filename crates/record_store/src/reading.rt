@@ -1,103 +1,119 @@
-// How the record of a primary key is read. Called by `load`, `save` and `remove`.
-ghost use Rattle.std.specs.Prelude.{◌≡◌, ◌∷◌, [], Some, IfOk, IfErr};
+// How the record of a key is read. Called by `load`, `save` and `remove`.
+ghost use Rattle.std.specs.Prelude.{◌≡◌, ◌∷◌, [], Some, IfOk, IfErr, IsTrue};
 ghost use Rattle.std.specs.FinMap.{get as value_at};
-ghost use Rattle.tuple_codec.specs.Spelling.{spelling};
+ghost use Rattle.std.specs.Option.{option_map};
+ghost use Rattle.kv_core.specs.Bytes.{end_of_keys, key_lt};
 ghost use Rattle.kv_core.specs.Range.{point};
-ghost use Rattle.metadata.specs.Lawful.{IsLawfulSchema};
-ghost use Rattle.metadata.specs.Schema.{find_type};
 ghost use Rattle.metadata.specs.Stored.{IsStoredAs};
-ghost use Rattle.record_store.specs.Call.{whole};
-ghost use Rattle.record_store.specs.Layout.{record_key};
-ghost use Rattle.record_store.specs.Reading.{HasNotFound, HasNotRead, IsFound, IsKeyOf, IsNotFound, IsRead};
+ghost use Rattle.record_store.specs.Layout.{packed_in};
+ghost use Rattle.record_store.specs.Reading.{HasNotRead, IsFound, IsNotFound};
 ghost use Rattle.record_store.specs.Steps.{DidRead};
 
 use crate::error::StoreError;
-use crate::layout::record_key;
+use crate::layout::packed_in;
 use crate::store::Store;
 use kv_core::Bytes;
-use metadata::{Record, TypeDefinition};
-use tuple_codec::{Tuple, pack};
+use metadata::{Cells, Record, TypeDefinition};
 use txn::{Snapshot, Transaction};
 
-impl Store {
-    // Reads the value at the key of the record with this primary key.
-    pub(crate) fn read_value<S: Snapshot>(
-        &self,
-        tx: &mut Transaction,
-        db: &S,
-        primary_key: &Tuple,
-    ) -> Result<Option<Bytes>, StoreError>
-        ensures read { IfOk result (λ value.
-            DidRead (S.map_at db.now) (point (record_key self.now.prefix primary_key.now) ∷ []) tx.old tx.new
-            (λ m. value ≡ value_at m (record_key self.now.prefix primary_key.now))) }
-        ensures refused { IfErr result (λ error.
-            HasNotRead (S.map_at db.now) (S.may_refuse db.now)
-            (point (record_key self.now.prefix primary_key.now) ∷ []) error tx.old tx.new) }
-        ensures lawful { IsLawfulSchema self.now.schema }
-    {
-        let key = record_key(self.alloc(), self.prefix(), primary_key)?;
-        let value = tx.get(db, &key)?;
-        Ok(value)
-    }
+// Reads the value at the key of a record.
+pub(crate) fn read_value<S: Snapshot>(
+    tx: &mut Transaction,
+    db: &S,
+    key: &Bytes,
+) -> Result<Option<Bytes>, StoreError>
+    requires { IsTrue (key_lt key.now end_of_keys) }
+    ensures read { IfOk result (λ value.
+        DidRead (S.map_at db.now) (point key.now ∷ []) tx.old tx.new
+        (λ m. value ≡ value_at m key.now)) }
+    ensures refused { IfErr result (λ error.
+        HasNotRead (S.map_at db.now) (S.may_refuse db.now) (point key.now ∷ [])
+        error tx.old tx.new) }
+{
+    let value = tx.get(db, key)?;
+    Ok(value)
+}
 
-    // The record of this primary key of a type of the schema that has this value.
+impl Store {
+    // The record of a type that has this key and this value.
     pub(crate) fn record_with(
         &self,
         definition: &TypeDefinition,
-        primary_key: &Tuple,
+        key: &Bytes,
         value: &Bytes,
     ) -> Result<Record, StoreError>
-        ensures found { IfOk result (IsStoredAs definition.now (spelling primary_key.now) value.now) }
-        ensures refused { IfErr result (IsNotFound definition.now (spelling primary_key.now)
-            (record_key self.now.prefix primary_key.now) (Some value.now)) }
+        ensures found { IfOk result
+            (IsStoredAs definition.now (packed_in self.now.prefix key.now) value.now) }
+        ensures refused { IfErr result
+            (IsNotFound definition.now (packed_in self.now.prefix key.now) key.now
+            (Some value.now)) }
     {
-        let alloc = self.alloc();
-        let packed = pack(alloc, primary_key)?;
-        match Record::decode(alloc, definition, packed.as_slice(), value.as_slice())? {
+        let packed = packed_in(self.prefix(), key);
+        match Record::decode(self.alloc(), definition, packed, value.as_slice())? {
             Some(found) => Ok(found),
-            None => Err(StoreError::Corrupt(record_key(alloc, self.prefix(), primary_key)?)),
+            None => Err(StoreError::Corrupt(key.copy()?)),
         }
     }
 
-    // The record of this primary key whose value was found, if one was.
+    // The cells of that record alone.
+    fn cells_with(
+        &self,
+        definition: &TypeDefinition,
+        key: &Bytes,
+        value: &Bytes,
+    ) -> Result<Cells, StoreError>
+        ensures found { IfOk result (λ cells.
+            IsStoredAs definition.now (packed_in self.now.prefix key.now) value.now
+            (record { definition = definition.now; cells = cells })) }
+        ensures refused { IfErr result
+            (IsNotFound definition.now (packed_in self.now.prefix key.now) key.now
+            (Some value.now)) }
+    {
+        let packed = packed_in(self.prefix(), key);
+        let Some(cells) = definition.cells_in(self.alloc(), packed, value.as_slice())? else {
+            return Err(StoreError::Corrupt(key.copy()?));
+        };
+        Ok(cells)
+    }
+
+    // The record of a type that has this key, whose value was found, if one was.
     pub(crate) fn record_of(
         &self,
         definition: &TypeDefinition,
-        primary_key: &Tuple,
+        key: &Bytes,
         value: Option<Bytes>,
     ) -> Result<Option<Record>, StoreError>
-        ensures found { IfOk result (IsFound definition.now (spelling primary_key.now) value) }
-        ensures refused { IfErr result (IsNotFound definition.now (spelling primary_key.now)
-            (record_key self.now.prefix primary_key.now) value) }
+        ensures found { IfOk result
+            (IsFound definition.now (packed_in self.now.prefix key.now) value) }
+        ensures refused { IfErr result
+            (IsNotFound definition.now (packed_in self.now.prefix key.now) key.now value) }
     {
         match value {
             None => Ok(None),
             Some(value) => {
-                let found = self.record_with(definition, primary_key, &value)?;
+                let found = self.record_with(definition, key, &value)?;
                 Ok(Some(found))
             }
         }
     }
 
-    // Reads the record of a type of the schema with this primary key, if it is there.
-    pub(crate) fn read_record<S: Snapshot>(
+    // The cells of that record alone.
+    pub(crate) fn cells_of(
         &self,
-        tx: &mut Transaction,
-        db: &S,
         definition: &TypeDefinition,
-        primary_key: &Tuple,
-    ) -> Result<Option<Record>, StoreError>
-        requires own { find_type self.now.schema definition.now.name ≡ Some definition.now }
-        requires key { IsKeyOf definition.now primary_key.now }
+        key: &Bytes,
+        value: Option<Bytes>,
+    ) -> Result<Option<Cells>, StoreError>
         ensures found { IfOk result (λ found.
-            DidRead (S.map_at db.now) (point (record_key self.now.prefix primary_key.now) ∷ []) tx.old tx.new
-            (IsRead self.now primary_key.now found)) }
-        ensures refused { IfErr result (λ error.
-            HasNotFound (S.map_at db.now) (S.may_refuse db.now) self.now
-            (whole (point (record_key self.now.prefix primary_key.now) ∷ [])) error tx.old tx.new) }
+            IsFound definition.now (packed_in self.now.prefix key.now) value
+            (option_map (λ cells. record { definition = definition.now; cells = cells }) found)) }
+        ensures refused { IfErr result
+            (IsNotFound definition.now (packed_in self.now.prefix key.now) key.now value) }
     {
-        let value = self.read_value(tx, db, primary_key)?;
-        let found = self.record_of(definition, primary_key, value)?;
-        Ok(found)
+        let Some(value) = value else {
+            return Ok(None);
+        };
+        let cells = self.cells_with(definition, key, &value)?;
+        Ok(Some(cells))
     }
 }

@@ -1,45 +1,46 @@
 // How a record is removed. Called by `schedule` for the command `remove`.
-ghost use Rattle.std.specs.Prelude.{◌≡◌, ◌∷◌, [], None, Some, IfOk, IfErr, map};
+ghost use Rattle.std.specs.Prelude.{◌∷◌, [], None, Some, IfOk, IfErr, IsTrue, map};
+ghost use Rattle.kv_core.specs.Bytes.{end_of_keys, key_lt};
 ghost use Rattle.kv_core.specs.Range.{point};
 ghost use Rattle.kv_core.specs.declared.change.Mutation.TheVariants.{ClearRange};
-ghost use Rattle.record_store.specs.Layout.{record_key};
+ghost use Rattle.record_store.specs.BuiltReading.{position_in};
 ghost use Rattle.record_store.specs.Reading.{HaveFollowed, HaveNotFollowed};
 ghost use Rattle.record_store.specs.Call.{IsAnswered, IsRefused};
 ghost use Rattle.record_store.specs.Calls.{remove_call};
 
-use crate::built::position_of;
 use crate::error::StoreError;
-use crate::layout::record_key;
+use crate::layout::key_asked;
+use crate::reading::read_value;
 use crate::store::Store;
-use kv_core::{KeyRange, Mutation, Pair};
-use metadata::{Cells, Record, key_of};
-use tuple_codec::{Text, Tuple};
+use kv_core::{Bytes, KeyRange, Mutation, Pair};
+use metadata::{Cells, Record};
+use tuple_codec::Text;
 use txn::{Snapshot, Transaction};
 
 impl Store {
-    // What removing this record of the type with this number writes, which has this primary key.
+    // What removing this record of the type with this number writes, which has this key.
     fn removal(
         &self,
         number: u64,
         old: &Record,
-        primary_key: &Tuple,
-        position: &[u8],
+        key: &Bytes,
         found: &[Vec<Pair>],
     ) -> Result<Vec<Mutation>, StoreError>
+        requires { IsTrue (key_lt key.now end_of_keys) }
         ensures mutations { IfOk result (λ mutations.
-            HaveFollowed self.now number position.now (Some old.now) None
+            HaveFollowed self.now number (position_in self.now.prefix number key.now)
+            (Some old.now) None
             (map (λ pairs. pairs.items) found.now) self.now.schema.indexes
-            (ClearRange (point (record_key self.now.prefix primary_key.now)) ∷ []) mutations.items) }
-        ensures refused { IfErr result (HaveNotFollowed self.now number position.now
-            (map (λ pairs. pairs.items) found.now)) }
+            (ClearRange (point key.now) ∷ []) mutations.items) }
+        ensures refused { IfErr result (HaveNotFollowed self.now number
+            (position_in self.now.prefix number key.now) (map (λ pairs. pairs.items) found.now)) }
     {
         let alloc = self.alloc();
-        let key = record_key(alloc, self.prefix(), primary_key)?;
-        let range = KeyRange::point(alloc, &key)?;
+        let range = KeyRange::point(alloc, key)?;
         let mut mutations = Vec::new(alloc);
         mutations.push(Mutation::ClearRange(range))?;
         let old = old.lend();
-        self.push_index_changes(number, position, found, Some(&old), None, &mut mutations)?;
+        self.push_index_changes(number, key, found, Some(&old), None, &mut mutations)?;
         Ok(mutations)
     }
 
@@ -63,16 +64,14 @@ impl Store {
             (remove_call self.now type_name.now key.now) error tx.old tx.new) }
     {
         let definition = self.definition(type_name)?;
-        let primary_key = key_of(self.alloc(), self.schema(), type_name, key)?;
-        let position = position_of(self.alloc(), definition.number, &primary_key)?;
-        let Some(value) = self.read_value(tx, db, &primary_key)? else {
+        let at = key_asked(self.alloc(), self.prefix(), definition, key)?;
+        let Some(value) = read_value(tx, db, &at)? else {
             return Ok(false);
         };
-        let at = position.as_slice();
-        let found = self.read_built(tx, db, definition.number, at)?;
-        let old = self.record_with(definition, &primary_key, &value)?;
+        let found = self.read_built(tx, db, definition.number, &at)?;
+        let old = self.record_with(definition, &at, &value)?;
         let found = found.as_slice();
-        let mutations = self.removal(definition.number, &old, &primary_key, at, found)?;
+        let mutations = self.removal(definition.number, &old, &at, found)?;
         tx.write_all(mutations)?;
         Ok(true)
     }

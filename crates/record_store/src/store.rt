@@ -11,7 +11,7 @@ use crate::opening::OpeningReads;
 use metadata::{Refusal, Schema, State, TypeDefinition};
 use std::alloc::{AllocError, Global};
 use std::marker::Model;
-use std::rc::Rc;
+use std::sync::Arc;
 use tuple_codec::Text;
 
 /// A store that was opened in a transaction: the prefix of its keys, its schema, and the states of
@@ -21,7 +21,7 @@ use tuple_codec::Text;
 #[derive(Drop)]
 pub struct Store {
     pub(crate) prefix: Vec<u8>,
-    pub(crate) schema: Rc<Schema>,
+    pub(crate) schema: Arc<Schema>,
     pub(crate) states: Vec<(u64, State)>,
     // What opening it reads.
     pub(crate) reads: OpeningReads,
@@ -50,10 +50,10 @@ pub(crate) fn lawful_known(schema: &Schema)
 }
 
 // The schema, to be shared.
-pub(crate) fn shared_schema(alloc: Global, schema: Schema) -> Result<Rc<Schema>, AllocError>
+pub(crate) fn shared_schema(alloc: Global, schema: Schema) -> Result<Arc<Schema>, AllocError>
     ensures { IfOk result (λ shared. shared.value ≡ schema) }
 {
-    let shared = Rc::new(alloc, schema)?;
+    let shared = Arc::new(alloc, schema)?;
     Ok(shared)
 }
 

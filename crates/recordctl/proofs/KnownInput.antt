@@ -4,9 +4,10 @@ use Rattle.std.proofs.Common.{◌≡◌, subst, ◌⊎◌, inl, inr, ℕ, ◌≤
 use Rattle.std.proofs.lemmas.Bool.Decides.{nat_tests}
 use Rattle.std.proofs.lemmas.List.{length-take, take_all}
 use Rattle.cluster_core.specs.declared.answers.Config.{Config}
+use Rattle.schedule.specs.Stepwise.{StepwiseState}
 use Rattle.schedule.specs.declared.step.Step.{Step}
-use Rattle.schedule.specs.declared.transcript.Transcript.{Transcript}
-use Rattle.recordctl.specs.declared.in_turn.Begun.{Begun}
+use Rattle.shell.specs.Further.{HasDoneNext}
+use Rattle.recordctl.specs.declared.run.Begun.{Begun}
 use Rattle.recordctl.specs.declared.fault.Fault.{Fault}
 use Rattle.recordctl.specs.declared.fault.Fault.TheVariants.{OutOfMemory, CannotRead, BadScript, BadConfig, BadArgument, Refused, RefusedSchema, RefusedQuery, SortNotServed, GaveUp, RefusedCommand, Corrupt}
 use Rattle.json_forms.specs.Json.{value_in}
@@ -16,7 +17,7 @@ use Rattle.explain.specs.Planning.{IsPlanAskedBy}
 use Rattle.command_line.specs.declared.request.PlanForm.{PlanForm}
 use Rattle.recordctl.specs.PlanLines.{IsShownPlan, explains_plan}
 use Rattle.recordctl.specs.Racing.{IsRaced, explains_raced}
-use Rattle.recordctl.specs.Run.{IsBegunOf, IsTranscriptOf, explains_run}
+use Rattle.recordctl.specs.Run.{IsBegunOf, IsRunOf, explains_run}
 use Rattle.serde_json.specs.Data.{Data}
 use Rattle.script_check.specs.Good.{IsGood, file_form_in, is_good_as}
 use Rattle.script_check.specs.declared.file_form.FileForm.{FileForm}
@@ -60,15 +61,23 @@ explained_moved a b e (RefusedCommand why) h = h
 explained_moved a b e Corrupt h = h
 
 -- what is said of the bytes that are read is so of the whole input
-pub transcript_of_front : (known : Option (List ℕ)) (bytes : List ℕ) (transcript : Transcript) → IfSome known (λ text. bytes ≡ take 4000001 text) → IsTranscriptOf bytes transcript → IfSome known (λ text. IsTranscriptOf text transcript)
-transcript_of_front None bytes transcript h is = tt
-transcript_of_front (Some text) bytes transcript h is =
-    record { config = is.config; steps = is.steps; script = script_moved bytes text (ap value_in h ∙ value_of_front text) is.config is.steps is.script; right = is.right; allowed = is.allowed }
-
 pub begun_of_front : (known : Option (List ℕ)) (bytes : List ℕ) (begun : Begun) → IfSome known (λ text. bytes ≡ take 4000001 text) → IsBegunOf bytes begun → IfSome known (λ text. IsBegunOf text begun)
 begun_of_front None bytes begun h is = tt
 begun_of_front (Some text) bytes begun h is =
     record { config = is.config; script = script_moved bytes text (ap value_in h ∙ value_of_front text) is.config begun.steps.items is.script; done = is.done; allowed = is.allowed }
+
+-- what a script that is begun has run, once its steps are done
+run_of_begun : (known : Option (List ℕ)) (begun : Begun) (after : StepwiseState) → IfSome known (λ text. IsBegunOf text begun) → HasDoneNext begun.steps.items begun.schedule after → IfSome known (λ text. IsRunOf text after)
+run_of_begun None begun after is next = tt
+run_of_begun (Some text) begun after is next =
+    let done = next is.config [] [] is.done in
+    record { config = is.config; steps = begun.steps.items; replies = done.0; script = is.script; done = done.1; allowed = is.allowed }
+
+-- the same of what is answered of them
+pub ran_of_begun : {E : Type 0} (known : Option (List ℕ)) (begun : Begun) (r : Result StepwiseState E) → IfSome known (λ text. IsBegunOf text begun) → IfOk r (HasDoneNext begun.steps.items begun.schedule)
+    → IfOk r (λ after. IfSome known (λ text. IsRunOf text after))
+ran_of_begun known begun (Err why) is next = tt
+ran_of_begun known begun (Ok after) is next = run_of_begun known begun after is next
 
 pub explained_of_front : (known : Option (List ℕ)) (bytes : List ℕ) (fault : Fault) → IfSome known (λ text. bytes ≡ take 4000001 text) → explains_run bytes fault → IfSome known (λ text. explains_run text fault)
 explained_of_front None bytes fault h is = tt

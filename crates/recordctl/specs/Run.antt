@@ -2,13 +2,12 @@
 use Rattle.std.specs.Prelude.{◌≡◌, ℕ, List, [], Some, IsNone}
 use Rattle.cluster_core.specs.Configuration.{config_refusal}
 use Rattle.cluster_core.specs.declared.answers.Config.{Config}
-use Rattle.schedule.specs.Right.{IsRightRun}
-use Rattle.schedule.specs.Stepwise.{HasDone}
+use Rattle.schedule.specs.Stepwise.{HasDone, StepwiseState}
+use Rattle.schedule.specs.declared.reply.Reply.{Reply}
 use Rattle.schedule.specs.declared.step.Step.{Step}
-use Rattle.schedule.specs.declared.transcript.Transcript.{Transcript}
 use Rattle.script.specs.Script.{IsScript, explains_script}
 use Rattle.script.specs.declared.error.ScriptError.TheVariants as errors
-use Rattle.recordctl.specs.declared.in_turn.Begun.{Begun}
+use Rattle.recordctl.specs.declared.run.Begun.{Begun}
 use Rattle.recordctl.specs.declared.fault.Fault.{Fault}
 use Rattle.recordctl.specs.declared.fault.Fault.TheVariants.{OutOfMemory, BadScript, BadConfig}
 use Rattle.recordctl.specs.declared.fault.Fault.TheVariants.{CannotRead, BadArgument, Refused}
@@ -32,18 +31,18 @@ explains_run text GaveUp = ⊥
 explains_run text (RefusedCommand why) = ⊥
 explains_run text Corrupt = ⊥
 
--- Private: a transcript is that of a script's text: a right run of the script's steps over a database of its
--- configuration
-pub record IsTranscriptOf (text : List ℕ) (transcript : Transcript) : Type 0 where
-  pub config : Config
-  pub steps : List Step
-  pub script : IsScript text config steps
-  pub right : IsRightRun config steps transcript
-  pub allowed : IsNone (config_refusal config)
-
 -- Private: a script that is begun is that of a text, before its first step
 pub record IsBegunOf (text : List ℕ) (begun : Begun) : Type 0 where
   pub config : Config
   pub script : IsScript text config begun.steps.items
   pub done : HasDone config [] [] begun.schedule
+  pub allowed : IsNone (config_refusal config)
+
+-- Private: a schedule is that of a text: the steps of the script were done over an empty database of its configuration
+pub record IsRunOf (text : List ℕ) (schedule : StepwiseState) : Type 0 where
+  pub config : Config
+  pub steps : List Step
+  pub replies : List Reply
+  pub script : IsScript text config steps
+  pub done : HasDone config steps replies schedule
   pub allowed : IsNone (config_refusal config)

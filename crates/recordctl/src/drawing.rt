@@ -1,5 +1,5 @@
-// What is drawn of a script's steps. Called by `in_turn`.
-use crate::in_turn::Begun;
+// What is drawn of a script's steps. Called by `run`.
+use crate::run::Begun;
 use cluster_core::Cluster;
 use drawings::{Act, Event, Lane, Outcome};
 use schedule::{Command, Refusal, Reply, Report, Reports, Step};

@@ -1,4 +1,4 @@
-// The lines of a script's steps, which `run --echo` prints. Called by `run` and `in_turn`.
+// The lines of a script's steps, which `run --echo` prints. Called by `run`.
 use command_line::RunWords;
 use shell_text::step_lines;
 use std::alloc::{AllocError, Global};

@@ -1,5 +1,5 @@
 // The faults of all commands of the program. Used by every module here.
-ghost use Rattle.std.specs.Prelude.{◌≡◌};
+ghost use Rattle.std.specs.Prelude.{◌≡◌, ◌≢◌};
 ghost use Rattle.recordctl.specs.declared.fault.Fault.TheVariants.{OutOfMemory};
 
 use cluster_core::ConfigError;
@@ -65,5 +65,16 @@ impl<T: Drop> From<AllocFailed<T>> for Fault {
 
     fn from(_error: AllocFailed<T>) -> Fault {
         Fault::OutOfMemory
+    }
+}
+
+/// The fault of a configuration that is refused.
+pub fn refused(refusal: ConfigError) -> Fault
+    ensures memory { refusal ≡ ConfigError.Memory → result ≡ Fault.OutOfMemory }
+    ensures named { refusal ≢ ConfigError.Memory → result ≡ Fault.BadConfig refusal }
+{
+    match refusal {
+        ConfigError::Memory => Fault::OutOfMemory,
+        ConfigError::BadCount | ConfigError::BadSplits => Fault::BadConfig(refusal),
     }
 }

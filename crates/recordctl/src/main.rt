@@ -10,7 +10,6 @@ mod checks;
 mod drawing;
 mod echo;
 mod fault;
-mod in_turn;
 mod input;
 mod plans;
 mod printing;
@@ -23,11 +22,10 @@ mod tuples;
 use checks::{check_files, check_input};
 use command_line::{CommandLineError, PlanForm, Request, RunWords, request_of, version_line};
 use fault::Fault;
-use in_turn::{draw_run, run_in_turn};
 use plans::print_plan;
-use printing::print_line;
+use printing::{print_line, refuse};
 use racing::run_race;
-use run::{refuse, run};
+use run::{draw_run, run};
 use shelling::{Terminals, run_typed};
 use simulating::simulate;
 use std::alloc::Global;
@@ -56,8 +54,7 @@ fn refuse_command_line<E: Write>(errors: &mut E, error: &CommandLineError) -> Ex
     }
 }
 
-// Runs the script that the input stands for, and prints what is asked for. Where names are asked for,
-// or somebody watches how far it is, each reply is printed as its step is done.
+// Runs the script that the input stands for, and prints what is asked for.
 fn run_as<R: Read, W: Write, E: Write>(
     alloc: Global,
     words: RunWords,
@@ -70,10 +67,8 @@ fn run_as<R: Read, W: Write, E: Write>(
 {
     if words.is_drawn {
         draw_run(alloc, input, output, errors)
-    } else if words.is_named || is_watched {
-        run_in_turn(alloc, words, is_watched, input, output, errors)
     } else {
-        run(alloc, words, input, output, errors)
+        run(alloc, words, is_watched, input, output, errors)
     }
 }
 

@@ -1,13 +1,20 @@
-// What ends a command that prints one text. Called by `plans`, `racing` and `tuples`.
+// What ends a command: the line of a fault, or one text. Called by all modules of commands here.
 ghost use Rattle.std.specs.Prelude.{◌≡◌, ◌≤◌, OnOk, MatchResult, string_bytes};
 ghost use Rattle.std.specs.Io.KnownBytes.{Appends};
 ghost use Rattle.std.specs.Process.{exit_status};
 
 use crate::fault::Fault;
-use crate::run::refuse;
 use std::io;
 use std::io::Write;
 use std::process::ExitCode;
+
+/// Prints the line of a fault, and answers the exit status, which is 1.
+pub fn refuse<E: Write>(errors: &mut E, fault: Fault) -> ExitCode
+    ensures { exit_status result ≡ 1 }
+{
+    let _ = writeln!(errors, "{fault}");
+    ExitCode::FAILURE
+}
 
 // Writes a line.
 fn write_line<W: Write>(output: &mut W, line: &str) -> io::Result<()>

@@ -3,10 +3,9 @@ ghost use Rattle.std.specs.Prelude.{◌≡◌, ◌≤◌, ◌⊎◌, OnOk, IfErr
 ghost use Rattle.std.specs.Process.{exit_status};
 ghost use Rattle.recordctl.specs.Racing.{IsRaced, explains_raced};
 
-use crate::fault::Fault;
+use crate::fault::{Fault, refused};
 use crate::input::read_input;
 use crate::printing::print_line;
-use crate::run::refused;
 use race::RaceError;
 use script::{ScriptError, race_of};
 use std::alloc::Global;

@@ -1,150 +1,258 @@
-// The command `run`. Called by `main`; what prints a fault also by `printing`, the fault of a
-// configuration by `racing` and `in_turn`, and what prints a step by `in_turn`.
-ghost use Rattle.std.specs.Prelude.{◌≡◌, ◌≢◌, ◌≤◌, ◌⊎◌, IfOk, IfErr, IfSome};
+// The command `run`: a script is run a step at a time, and what each step replies is printed as it is
+// done. Called by `main` and `simulating`.
+ghost use Rattle.std.specs.Prelude.{◌≡◌, ◌≤◌, ◌⊎◌, false, IfOk, IfErr, IfSome, OnOk};
 ghost use Rattle.std.specs.Process.{exit_status};
 ghost use Rattle.script_check.specs.Good.{IsRunnable};
-ghost use Rattle.recordctl.specs.Run.{IsTranscriptOf, explains_run};
-ghost use Rattle.recordctl.specs.declared.run.PrintError.TheVariants.{CannotWrite, OutOfMemory};
+ghost use Rattle.shell.specs.Further.{HasDoneNext};
+ghost use Rattle.recordctl.specs.Run.{IsBegunOf, IsRunOf, explains_run};
+ghost use Rattle.recordctl.specs.declared.run.Stopped.TheVariants.{CannotWrite, Refused};
+ghost use Rattle.recordctl.specs.declared.fault.Fault.TheVariants.{OutOfMemory};
 
+use crate::drawing::drawn_steps;
 use crate::echo::steps_shown;
-use crate::fault::Fault;
+use crate::fault::{Fault, refused};
 use crate::input::read_input;
-use cluster_core::ConfigError;
+use crate::printing::{print_line, refuse};
 use command_line::RunWords;
-use schedule::{Replies, ScheduleError, Transcript, run_schedule};
-use script::{ScriptError, make_line, script_of};
+use drawings::schedule_svg;
+use schedule::{Reply, Schedule, ScheduleError, Step};
+use script::{Script, ScriptError, make_line, script_of};
+use shell::push_named_reply;
+use shell_text::{Progress, step_lines};
 use std::alloc::{AllocError, Global};
+use std::fmt::Write as _;
 use std::io::{BufWriter, Read, Write};
 use std::process::ExitCode;
 use std::{io, mem};
 
-/// Why not every reply is printed.
+/// Why a script isn't run to its end.
 #[derive(Drop)]
-pub enum PrintError {
-    /// Memory is wanting.
-    OutOfMemory,
+pub enum Stopped {
+    /// It is refused, or memory is wanting.
+    Refused(Fault),
     /// The output can't be written.
     CannotWrite,
 }
 
-impl From<AllocError> for PrintError {
-    ghost from_gives = { λ _ error. error ≡ OutOfMemory };
+impl From<Fault> for Stopped {
+    ghost from_gives = { λ fault stopped. stopped ≡ Refused fault };
 
-    fn from(_error: AllocError) -> PrintError {
-        PrintError::OutOfMemory
+    fn from(fault: Fault) -> Stopped {
+        Stopped::Refused(fault)
     }
 }
 
-impl From<io::Error> for PrintError {
-    ghost from_gives = { λ _ error. error ≡ CannotWrite };
+impl From<AllocError> for Stopped {
+    ghost from_gives = { λ _ stopped. stopped ≡ Refused OutOfMemory };
 
-    fn from(_error: io::Error) -> PrintError {
-        PrintError::CannotWrite
+    fn from(_error: AllocError) -> Stopped {
+        Stopped::Refused(Fault::OutOfMemory)
     }
 }
 
-/// The fault of a configuration that is refused.
-pub fn refused(refusal: ConfigError) -> Fault
-    ensures memory { refusal ≡ ConfigError.Memory → result ≡ Fault.OutOfMemory }
-    ensures named { refusal ≢ ConfigError.Memory → result ≡ Fault.BadConfig refusal }
-{
-    match refusal {
-        ConfigError::Memory => Fault::OutOfMemory,
-        ConfigError::BadCount | ConfigError::BadSplits => Fault::BadConfig(refusal),
+impl From<io::Error> for Stopped {
+    ghost from_gives = { λ _ stopped. stopped ≡ CannotWrite };
+
+    fn from(_error: io::Error) -> Stopped {
+        Stopped::CannotWrite
     }
 }
 
-// What the steps of a script reply, from its text.
-fn run_script(alloc: Global, text: &[u8]) -> Result<Transcript, Fault>
-    ensures ok { IfOk result (IsTranscriptOf text.now) }
+/// A script that is begun: its steps, and the schedule before them.
+#[derive(Drop)]
+pub struct Begun {
+    pub steps: Vec<Step>,
+    pub schedule: Schedule,
+}
+
+// The script that a text stands for, begun.
+fn begun_of(alloc: Global, text: &[u8]) -> Result<Begun, Fault>
+    ensures ok { IfOk result (IsBegunOf text.now) }
     ensures err { IfErr result (explains_run text.now) }
 {
-    let script = match script_of(alloc, text) {
+    let Script { config, steps } = match script_of(alloc, text) {
         Ok(script) => script,
         Err(ScriptError::BadScript(step)) => return Err(Fault::BadScript(step)),
         Err(ScriptError::OutOfMemory) => return Err(Fault::OutOfMemory),
     };
-    let ran = run_schedule(alloc, &script.config, script.steps.as_slice());
-    // The process ends soon, and takes the steps with it faster than one by one.
-    mem::forget(script);
-    match ran {
-        Ok(transcript) => Ok(transcript),
+    match Schedule::new(alloc, &config) {
+        Ok(schedule) => Ok(Begun { steps, schedule }),
         Err(ScheduleError::Config(refusal)) => Err(refused(refusal)),
         Err(ScheduleError::Memory) => Err(Fault::OutOfMemory),
     }
 }
 
-// What the steps of a script reply, and the lines of the steps that are shown.
-#[derive(Drop)]
-struct Shown {
-    steps: Vec<Vec<u8>>,
-    transcript: Transcript,
+// Makes the line of a step's reply, with names in the place of keys where that is asked for.
+fn make_line_as(
+    alloc: Global,
+    words: RunWords,
+    line: &mut String,
+    number: usize,
+    schedule: &Schedule,
+    reply: &Reply,
+) -> Result<(), AllocError> {
+    if !words.is_named {
+        return make_line(alloc, line, number, reply);
+    }
+    line.clear();
+    write!(line, "{number} ")?;
+    push_named_reply(alloc, line, schedule.cluster(), reply)?;
+    line.push_str("\n")
 }
 
-// What the steps of the script that is read reply, and of them what is shown.
-fn shown_of<R: Read>(alloc: Global, words: RunWords, input: &mut R) -> Result<Shown, Fault>
-    ensures ok { IfOk result (λ shown. IfSome (R.remaining input.old) (λ text. IsTranscriptOf text shown.transcript)) }
-    ensures err { IfErr result (λ fault.
-        (fault ≡ Fault.CannotRead) ⊎ IfSome (R.remaining input.old) (λ text. explains_run text fault)) }
-{
-    let text = read_input(alloc, input)?;
-    let transcript = run_script(alloc, text.as_slice())?;
-    let steps = steps_shown(alloc, words, text.as_slice())?;
-    Ok(Shown { steps, transcript })
-}
-
-/// Prints the line of the step at a place, where there is one.
-pub fn write_step<W: Write>(output: &mut W, steps: &[Vec<u8>], index: usize) -> io::Result<()> {
+// Prints the line of the step at a place, where there is one.
+fn write_step<W: Write>(output: &mut W, steps: &[Vec<u8>], index: usize) -> io::Result<()> {
     match steps.get(index) {
         Some(step) => output.write_all(step.as_slice()),
         None => Ok(()),
     }
 }
 
-// Prints a line for each reply, in order, after that of its step where that is shown.
-fn write_lines<W: Write>(
+// Does steps, and prints the line of each as it is done, after that of the step where those are
+// shown.
+fn write_in_turn<W: Write, E: Write>(
     alloc: Global,
+    words: RunWords,
+    progress: Progress,
+    schedule: Schedule,
+    steps: &[Step],
+    shown: &[Vec<u8>],
     output: &mut W,
-    steps: &[Vec<u8>],
-    replies: &Replies,
-) -> Result<(), PrintError> {
-    let mut line = String::new(alloc);
-    for (index, reply) in replies.as_slice().iter().enumerate() {
-        write_step(output, steps, index)?;
-        make_line(alloc, &mut line, index + 1, reply)?;
-        output.write_all(line.as_bytes())?;
-    }
-    output.flush()?;
-    Ok(())
-}
-
-// The same, through a buffer.
-fn print_replies<W: Write>(alloc: Global, output: &mut W, shown: &Shown) -> Result<(), PrintError> {
-    match BufWriter::new(alloc, output) {
-        Ok(mut buffered) => {
-            let steps = shown.steps.as_slice();
-            write_lines(alloc, &mut buffered, steps, &shown.transcript.replies)
-        }
-        Err(_) => Err(PrintError::OutOfMemory),
-    }
-}
-
-/// Prints the line of a fault, and answers the exit status, which is 1.
-pub fn refuse<E: Write>(errors: &mut E, fault: Fault) -> ExitCode
-    ensures { exit_status result ≡ 1 }
+    errors: &mut E,
+) -> Result<Schedule, Stopped>
+    ensures done { IfOk result (HasDoneNext steps.now schedule) }
+    ensures quiet { progress ≡ false → E.contents errors.new ≡ E.contents errors.old }
 {
-    let _ = writeln!(errors, "{fault}");
-    ExitCode::FAILURE
+    let mut progress = progress;
+    let mut schedule = schedule;
+    let mut line = String::new(alloc);
+    for (index, step) in steps.iter().enumerate() {
+        let (after, reply) = schedule.step(alloc, step)?;
+        schedule = after;
+        write_step(output, shown, index)?;
+        make_line_as(alloc, words, &mut line, index + 1, &schedule, &reply)?;
+        output.write_all(line.as_bytes())?;
+        progress.note(errors, "steps");
+    }
+    progress.end(errors);
+    output.flush()?;
+    Ok(schedule)
 }
 
-/// Reads a script, runs its steps over an empty database and prints a line for each on `output`. A
-/// script is read and checked whole before its first step runs; where that fails a line on `errors`
-/// says why, and nothing is printed on `output`. Where steps are shown each line stands after that
-/// of its step. Answers the exit status: 0, or 1 for such a fault, for want of memory and where
-/// `output` can't be written.
+// A script that is read and begun, and its text.
+#[derive(Drop)]
+struct Taken {
+    text: Vec<u8>,
+    begun: Begun,
+}
+
+// The script that is read, begun.
+fn read_script<R: Read>(alloc: Global, input: &mut R) -> Result<Taken, Fault>
+    ensures ok { IfOk result (λ taken.
+        IfSome (R.remaining input.old) (λ text. IsBegunOf text taken.begun)) }
+    ensures err { IfErr result (λ fault.
+        (fault ≡ Fault.CannotRead) ⊎ IfSome (R.remaining input.old) (λ text. explains_run text fault)) }
+{
+    let text = read_input(alloc, input)?;
+    let begun = begun_of(alloc, text.as_slice())?;
+    Ok(Taken { text, begun })
+}
+
+// Does the steps of a script that is begun, and prints their lines through a buffer.
+fn print_in_turn<W: Write, E: Write>(
+    alloc: Global,
+    words: RunWords,
+    is_watched: bool,
+    taken: Taken,
+    output: &mut W,
+    errors: &mut E,
+) -> Result<Schedule, Stopped>
+    ensures done { IfOk result (HasDoneNext taken.begun.steps.items taken.begun.schedule) }
+    ensures quiet { is_watched ≡ false → E.contents errors.new ≡ E.contents errors.old }
+{
+    let Taken { text, begun } = taken;
+    let Begun { steps, schedule } = begun;
+    let shown = steps_shown(alloc, words, text.as_slice())?;
+    drop(text);
+    let mut buffered = BufWriter::new(alloc, output)?;
+    let schedule = write_in_turn(
+        alloc,
+        words,
+        Progress::new(is_watched),
+        schedule,
+        steps.as_slice(),
+        shown.as_slice(),
+        &mut buffered,
+        errors,
+    )?;
+    // The process ends next, and takes them with it faster than one by one.
+    mem::forget(steps);
+    Ok(schedule)
+}
+
+// Runs the script that is read, and answers the schedule of its steps.
+fn run_read<R: Read, W: Write, E: Write>(
+    alloc: Global,
+    words: RunWords,
+    is_watched: bool,
+    input: &mut R,
+    output: &mut W,
+    errors: &mut E,
+) -> Result<Schedule, Stopped>
+    ensures ran { IfOk result (λ schedule.
+        IfSome (R.remaining input.old) (λ text. IsRunOf text schedule)) }
+    ensures quiet { is_watched ≡ false → E.contents errors.new ≡ E.contents errors.old }
+{
+    let taken = read_script(alloc, input)?;
+    print_in_turn(alloc, words, is_watched, taken, output, errors)
+}
+
+/// Reads a script, runs its steps over an empty database, and prints a line for each as it is done
+/// on `output`, and how far it is on `errors` where somebody watches that. A script is read and
+/// checked whole before its first step runs; where that fails a line on `errors` says why, and
+/// nothing is printed on `output`. Where steps are shown each line stands after that of its step.
+/// Answers the exit status: 0, or 1 for such a fault, for want of memory and where `output` can't
+/// be written.
 pub fn run<R: Read, W: Write, E: Write>(
     alloc: Global,
     words: RunWords,
+    is_watched: bool,
+    input: &mut R,
+    output: &mut W,
+    errors: &mut E,
+) -> ExitCode
+    ensures status { exit_status result ≤ 1 }
+    ensures script { exit_status result ≡ 0 → IfSome (R.remaining input.old) IsRunnable }
+    ensures quiet { exit_status result ≡ 0 → is_watched ≡ false →
+        E.contents errors.new ≡ E.contents errors.old }
+{
+    match run_read(alloc, words, is_watched, input, output, errors) {
+        Ok(schedule) => {
+            mem::forget(schedule);
+            ExitCode::SUCCESS
+        }
+        Err(Stopped::Refused(fault)) => refuse(errors, fault),
+        Err(Stopped::CannotWrite) => ExitCode::FAILURE,
+    }
+}
+
+// The drawing of the script that is read.
+fn drawing_of_input<R: Read>(alloc: Global, input: &mut R) -> Result<String, Fault>
+    ensures ok { OnOk result (IfSome (R.remaining input.old) IsRunnable) }
+    ensures err { IfErr result (λ fault.
+        (fault ≡ Fault.CannotRead) ⊎ IfSome (R.remaining input.old) (λ text. explains_run text fault)) }
+{
+    let Taken { text, begun } = read_script(alloc, input)?;
+    let lines = step_lines(alloc, text.as_slice())?;
+    let events = drawn_steps(alloc, begun, lines.as_slice())?;
+    Ok(schedule_svg(alloc, events.as_slice())?)
+}
+
+/// Reads a script, runs its steps over an empty database, and prints a drawing of them. Answers the
+/// exit status: 0, or 1 with a line on `errors` as `run`, and 1 without one where `output`
+/// can't be written.
+pub fn draw_run<R: Read, W: Write, E: Write>(
+    alloc: Global,
     input: &mut R,
     output: &mut W,
     errors: &mut E,
@@ -153,16 +261,6 @@ pub fn run<R: Read, W: Write, E: Write>(
     ensures script { exit_status result ≡ 0 → IfSome (R.remaining input.old) IsRunnable }
     ensures quiet { exit_status result ≡ 0 → E.contents errors.new ≡ E.contents errors.old }
 {
-    let shown = match shown_of(alloc, words, input) {
-        Ok(shown) => shown,
-        Err(fault) => return refuse(errors, fault),
-    };
-    let printed = print_replies(alloc, output, &shown);
-    // The process ends next, and takes all that was made with it faster than piece by piece.
-    mem::forget(shown);
-    match printed {
-        Ok(()) => ExitCode::SUCCESS,
-        Err(PrintError::OutOfMemory) => refuse(errors, Fault::OutOfMemory),
-        Err(PrintError::CannotWrite) => ExitCode::FAILURE,
-    }
+    let drawing = drawing_of_input(alloc, input);
+    print_line(output, errors, drawing)
 }

@@ -3,7 +3,7 @@ ghost use Rattle.std.specs.Prelude.{◌≤◌};
 ghost use Rattle.std.specs.Process.{exit_status};
 
 use crate::fault::Fault;
-use crate::run::refuse;
+use crate::printing::refuse;
 use command_line::ShellWords;
 use shell::{RowForm, ShellError, Telling, Watch, run_shell};
 use std::io::{Read, Write};

@@ -4,9 +4,8 @@ ghost use Rattle.std.specs.Process.{exit_status};
 ghost use Rattle.script_check.specs.Good.{IsRunnable};
 
 use crate::fault::Fault;
-use crate::in_turn::draw_run;
-use crate::printing::print_line;
-use crate::run::{refuse, run};
+use crate::printing::{print_line, refuse};
+use crate::run::{draw_run, run};
 use command_line::{RunWords, SimulationWords};
 use simulation::{Simulation, script_text};
 use std::alloc::Global;
@@ -36,7 +35,7 @@ fn run_text<W: Write, E: Write>(
     if is_drawn {
         draw_run(alloc, &mut input, output, errors)
     } else {
-        run(alloc, ECHO, &mut input, output, errors)
+        run(alloc, ECHO, false, &mut input, output, errors)
     }
 }
 

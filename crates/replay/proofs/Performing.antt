@@ -8,7 +8,7 @@ use Rattle.kv_core.specs.Range.{KeyRange}
 use Rattle.kv_core.specs.declared.change.CommitRequest.{CommitRequest}
 use Rattle.kv_core.specs.declared.change.Mutation.{Mutation}
 use Rattle.kv_core.proofs.Changes.{after_all-append}
-use Rattle.cluster_core.specs.declared.answers.ReadError.{ReadError}
+use Rattle.kv_core.specs.declared.snapshot.ReadError.{ReadError}
 use Rattle.txn.specs.Reads.{seen}
 use Rattle.record_store.specs.Store.{Serial}
 use Rattle.schedule.specs.declared.reply.Reply.{Reply}

@@ -6,6 +6,7 @@ pub mod Counting
 pub mod Entries
 pub mod Handled
 pub mod Known
+pub mod KnownStores
 pub mod WellFormed
 pub mod Moves
 pub mod Numbers

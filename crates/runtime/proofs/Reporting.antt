@@ -12,8 +12,8 @@ use Rattle.cluster_core.specs.Cluster.{without_servers}
 use Rattle.cluster_core.specs.Configuration.{first_pipeline}
 use Rattle.cluster_core.specs.Roles.{PipelineState, all_handled, is_caught_up, outcome, submit, submit_refusal, submitted, told, whole}
 use Rattle.cluster_core.proofs.Growth.{later_changes_nothing}
-use Rattle.txn.specs.Holds.{HeldError, first_raised, verdict}
-use Rattle.txn.specs.declared.commit.HoldError.TheVariants as holds
+use Rattle.commits.specs.Holds.{HeldError, first_raised, verdict}
+use Rattle.commits.specs.declared.commit.HoldError.TheVariants as holds
 use Rattle.runtime.specs.declared.log_entry.Entry.{Entry}
 use Rattle.runtime.specs.History.{Name}
 use Rattle.runtime.specs.Logs.{requests_of, version_of, pipeline_of, cause_next, IsWellFormedLog, IsOpenOver}
@@ -24,10 +24,10 @@ use mathlib.Core.List.{IsPrefix}
 use Rattle.runtime.specs.declared.in_flight.Due.{Due}
 use Rattle.runtime.specs.declared.in_flight.InFlight.TheVariants.{Unreported}
 use Rattle.runtime.specs.CommitStates.{IsInFlight, IsRecorded, decided_due, due_of}
-use Rattle.txn.specs.Finishing.{HasGoneOn}
+use Rattle.commits.specs.Finishing.{HasGoneOn}
 use Rattle.runtime.specs.History.{submitted_entry}
-use Rattle.txn.proofs.GoingOn.{handled_same, raised_length, still_unfinished}
-use Rattle.txn.proofs.Handling.{outcome-last}
+use Rattle.commits.proofs.GoingOn.{handled_same, raised_length, still_unfinished}
+use Rattle.commits.proofs.Handling.{outcome-last}
 use Rattle.runtime.proofs.WellFormed.{pipeline_next, lawful_next, open_begins, numbered_more}
 
 -- what is told of a request once the roles have handled it

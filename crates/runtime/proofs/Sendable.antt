@@ -11,12 +11,14 @@ use Rattle.cluster_core.proofs.kept.Cause.TheSendSync as cause
 use Rattle.cluster_core.proofs.log.Log.TheSendSync as log
 use Rattle.cluster_core.proofs.part.Part.TheSendSync as part
 use Rattle.cluster_core.proofs.past.Past.TheSendSync as past
+use Rattle.cluster_core.proofs.points.Points.TheSendSync as points
 use Rattle.cluster_core.proofs.tree.Tree.TheLaws.TheKnot as knot
 use Rattle.cluster_core.specs.contracts.requests.Requests as Requests
 use Rattle.cluster_core.specs.contracts.segments.Segments as Segments
 use Rattle.cluster_core.specs.contracts.kept.Writers as Writers
 use Rattle.cluster_core.specs.contracts.resolver.Resolver as Resolver
 use Rattle.cluster_core.specs.contracts.pipeline.Pipeline as Pipeline
+use Rattle.schedule.proofs.known.Known.TheSendSync as known
 use Rattle.runtime.proofs.publisher.Publisher.TheSendSync as publisher
 use Rattle.runtime.proofs.log_prefix.LogHead.TheSendSync as head
 use Rattle.runtime.proofs.log_prefix.LogPrefix.TheSendSync as prefix
@@ -47,7 +49,7 @@ segments_send : IsSend Segments.the_row
 segments_send = search (knot.crosses, bytes.the_send, sendable, crosses) depth 20
 
 writers_send : IsSend Writers.the_row
-writers_send = search (segments_send, sendable, crosses) depth 20
+writers_send = search (points.the_send, segments_send, sendable, crosses) depth 20
 
 resolver_send : IsSend Resolver.the_row
 resolver_send = search (part.the_send, writers_send, cause.the_send, sendable, crosses) depth 20
@@ -109,7 +111,7 @@ client_send E g s =
             option.the_field_send _ reader_send,
             (
               prefix.the_send,
-              (search (sendable, crosses), (search (sendable, crosses), (option.the_field_send _ open_tx.the_send, tt))),
+              (search (sendable, crosses), (search (sendable, crosses), (option.the_field_send _ open_tx.the_send, (known.the_field_send, tt)))),
             ),
           ),
         ),

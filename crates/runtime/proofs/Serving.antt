@@ -11,8 +11,8 @@ use Rattle.kv_core.specs.Range.{KeyRange, has_keys}
 use Rattle.kv_core.specs.declared.change.CommitRequest.{CommitRequest}
 use Rattle.kv_core.specs.declared.change.Mutation.{Mutation}
 use Rattle.cluster_core.specs.declared.answers.Config.{Config}
-use Rattle.cluster_core.specs.declared.answers.ReadError.{ReadError}
-use Rattle.cluster_core.specs.declared.answers.ReadError.TheVariants as reads
+use Rattle.kv_core.specs.declared.snapshot.ReadError.{ReadError}
+use Rattle.kv_core.specs.declared.snapshot.ReadError.TheVariants as reads
 use Rattle.cluster_core.specs.Configuration.{first_tier}
 use Rattle.cluster_core.specs.Decision.{Owned, owners, numbered, cut, is_committed, logged}
 use Rattle.cluster_core.specs.History as histories
@@ -40,7 +40,7 @@ use Rattle.runtime.specs.Logs.{logged_mutations, log_tier, submissions_of, commi
 use Rattle.runtime.specs.Logs.{HoldsEach, IsHeadlineOf, IsSerialLog, IsWellFormedLog, IsOpenOver, IsServedLog}
 use Rattle.runtime.specs.Traces.{attempts_of, opened, with_performed}
 use Rattle.runtime.specs.Serves.{IsAnswer, stopped}
-use Rattle.txn.specs.Refusing.{MayRefuse}
+use Rattle.cluster_core.specs.Refusing.{MayRefuse}
 use Rattle.txn.specs.Runs.{Ran}
 use Rattle.txn.proofs.Running.{ran_because}
 use Rattle.runtime.proofs.Entries.{map_begins, version_begins}
@@ -201,7 +201,7 @@ none_some None none some = cc
 none_some (Some x) none some = cc
 
 -- the map of servers that have pulled a longer log is the log's own at a version that they tell
-same_map : (config : Config) (log ys : List Entry) (version : ℕ) → IsPrefix log ys → version ≤ version_of config log → config.start ≤ version → version_of config ys - version ≤ config.window →
+pub same_map : (config : Config) (log ys : List Entry) (version : ℕ) → IsPrefix log ys → version ≤ version_of config log → config.start ≤ version → version_of config ys - version ≤ config.window →
     whole_map (log_tier config ys) version ≡ log_map config log version
 same_map config log ys version begins seen from near =
     tier_map config ys version from (let l = version_begins config log ys begins in omega (arith, seen, l)) near ∙ map_begins config log ys version begins seen

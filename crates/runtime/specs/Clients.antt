@@ -1,12 +1,14 @@
 -- What contracts see of a client.
 use Rattle.std.specs.Prelude.{◌≡◌, ℕ, zero, suc, true, List, [], ◌∷◌, ◌++◌, Option, Some, None}
 use mathlib.Core.List.{IsPrefix}
+use Rattle.record_store.specs.Call.{Opened}
+use Rattle.schedule.specs.Known.{IsKnown}
 use Rattle.schedule.specs.Turns.{fresh_request}
 use Rattle.runtime.specs.declared.log_entry.Entry.{Entry}
 use Rattle.runtime.specs.declared.open_transaction.OpenTransaction.{OpenTransaction}
 use Rattle.runtime.specs.declared.published.View.{View}
 use Rattle.runtime.specs.History.{Name, Prefix, log_prefix}
-use Rattle.runtime.specs.Logs.{IsOpenOver, version_of}
+use Rattle.runtime.specs.Logs.{IsOpenOver, log_map, version_of}
 use Rattle.runtime.specs.Publication.{IsLater}
 
 -- which database is the client's, the longest log that it has entered or learnt, its number, the last number of its
@@ -43,6 +45,12 @@ IsBegun me (Some open_tx) =
     × IsOpenOver open_tx.prefix.name.config open_tx.prefix.log open_tx.transaction open_tx.trace
     × (open_tx.transaction.read_version ≡ version_of open_tx.prefix.name.config open_tx.prefix.log)
 IsBegun me None = Unit {0}
+
+-- Private: a store that is known stands in the open transaction, over the maps of its log
+abbrev pub IsKnownIn : Option OpenTransaction → Option Opened → Type 0
+IsKnownIn (Some open_tx) known =
+    IsKnown open_tx.trace.store (log_map open_tx.prefix.name.config open_tx.prefix.log) known open_tx.transaction
+IsKnownIn None known = Unit {0}
 
 -- Private: the client's log begins with the log that its reader saw last, which is of the client's database
 abbrev pub Remembers : Prefix → View → Type 0

@@ -10,7 +10,7 @@ use Rattle.runtime.specs.declared.in_flight.InFlight.TheVariants.{Idle, Unreport
 use Rattle.runtime.specs.declared.outcome.Outcome.{Outcome}
 use Rattle.runtime.specs.declared.outcome.Outcome.TheVariants.{Committed, Conflict, TooOld, VersionsExhausted}
 use Rattle.runtime.specs.declared.outcome.Outcome.TheVariants.{Unknown, Memory}
-use Rattle.txn.specs.Finishing.{IsUnfinished}
+use Rattle.commits.specs.Finishing.{IsUnfinished}
 use Rattle.runtime.specs.History.{Name, log_prefix, submitted_entry}
 use Rattle.runtime.specs.Logs.{HasEarlier, IsWellFormedLog, logged_next, pipeline_of}
 use Rattle.runtime.specs.Outcomes.{GivesOne, IsReason}

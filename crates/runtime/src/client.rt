@@ -22,15 +22,16 @@ use crate::log_prefix::LogPrefix;
 use crate::open_transaction::OpenTransaction;
 use crate::outcome::Outcome;
 use crate::publication::StateReader;
-use crate::published_reads::{EnterError, look, look_up, perform_at};
+use crate::published_reads::{EnterError, look, look_up, perform_open_at};
 use crate::submission_status::SubmissionStatus;
 use record_store::StoreNumber;
-use schedule::{Command, Reply};
+use schedule::{Command, Known, Reply};
 use std::alloc::Global;
 use std::marker::Model;
 use std::sync::{Arc, Wait};
 
-/// A client, for one thread. It has one open transaction at most.
+/// A client, for one thread. It has one open transaction at most, and keeps its store open from one
+/// command to the next.
 #[derive(Drop)]
 pub struct Client<E: End> {
     alloc: Global,
@@ -41,13 +42,15 @@ pub struct Client<E: End> {
     number: u64,
     last: u64,
     begun: Option<OpenTransaction>,
+    known: Known,
 }
 
 impl<E: End> Model for Client<E> {
     ghost use Rattle.std.specs.Prelude.{◌≡◌, ◌<◌, [], Some};
     ghost use Rattle.std.specs.Arc.{arc_value};
     ghost use Rattle.left_right.specs.Sides.{view as knowledge};
-    ghost use Rattle.runtime.specs.Clients.{Knowledge, knows_that, IsBegun, HasReader, Remembers};
+    ghost use Rattle.runtime.specs.Clients.{Knowledge, knows_that, IsBegun, IsKnownIn};
+    ghost use Rattle.runtime.specs.Clients.{HasReader, Remembers};
     ghost use Rattle.std.specs.Coded.{codes};
     ghost use Rattle.runtime.specs.contracts.log_entry.Entry as entries;
     ghost use Rattle.runtime.specs.contracts.open_transaction.OpenTransaction as works;
@@ -66,7 +69,8 @@ impl<E: End> Model for Client<E> {
         × IsBegun c.me c.begun
         × (c.key.me.0.client ≡ Some c.number)
         × (c.key.me.0.last ≡ c.last)
-        × (c.number < c.me.name.config.places) };
+        × (c.number < c.me.name.config.places)
+        × IsKnownIn c.begun c.known.store };
 }
 
 impl<E: End> Client<E> {
@@ -95,6 +99,7 @@ impl<E: End> Client<E> {
             number,
             last: 0,
             begun: None,
+            known: Known::new(),
         }
     }
 
@@ -178,6 +183,7 @@ impl<E: End> Client<E> {
             return Err(EnterError::NotEntered);
         }
         self.me = prefix.again();
+        self.known.let_go();
         self.begun = Some(OpenTransaction::new(self.alloc, prefix, store));
         Ok(())
     }
@@ -211,12 +217,13 @@ impl<E: End> Client<E> {
             mut transaction,
             mut trace,
         } = open_tx;
-        let (reader, answer, seen) = perform_at(
+        let (reader, answer, seen) = perform_open_at(
             reader,
             self.alloc,
             &prefix,
             &mut transaction,
             &mut trace,
+            &mut self.known,
             command,
         );
         self.reader = Some(reader);
@@ -266,6 +273,7 @@ impl<E: End> Client<E> {
         else {
             return (Err(CommitError::Memory), None);
         };
+        self.known.let_go();
         let request = transaction.into_request();
         if request.mutations.is_empty() {
             return (Ok(Done::ReadOnly), None);

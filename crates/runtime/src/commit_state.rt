@@ -21,12 +21,12 @@ use crate::published::Step;
 use crate::publisher::Publisher;
 use crate::trace::Trace;
 use cluster_core::{Config, ConfigError, Pipeline, Reported, SubmitError};
+use commits::{Commit, HoldError as Held};
 use kv_core::CommitRequest;
 use std::alloc::{AllocError, Global};
 use std::marker::Model;
 use std::mem::replace;
 use std::sync::Wait;
-use txn::{Commit, HoldError as Held};
 
 /// The locked state: the pipeline, and the writer's side of what it reported.
 ///

@@ -3,7 +3,7 @@
 ghost use Rattle.std.specs.Prelude.{◌≡◌, List, [], ◌∷◌, ◌++◌, IfSome};
 ghost use Rattle.runtime.specs.CommitStates.{IsInFlight, IsRecorded, decided_due, due_of};
 ghost use Rattle.cluster_core.specs.Roles.{PipelineState, whole};
-ghost use Rattle.txn.specs.Finishing.{IsUnfinished};
+ghost use Rattle.commits.specs.Finishing.{IsUnfinished};
 ghost use Rattle.runtime.specs.History.{Name, log_prefix, submitted_entry};
 ghost use Rattle.runtime.specs.Logs.{IsWellFormedLog};
 ghost use Rattle.runtime.specs.declared.log_entry.Entry.{Entry};
@@ -12,9 +12,9 @@ use crate::log_entry::Submitted;
 use crate::log_prefix::{LogHead, LogPrefix};
 use crate::published::Step;
 use cluster_core::{Pipeline, Reported};
+use commits::finish;
 use kv_core::Mutations;
 use std::alloc::Global;
-use txn::finish;
 
 /// The history has room for so many entries.
 const MOST: u64 = 1 << 60;

@@ -3,7 +3,8 @@ ghost use Rattle.std.specs.Prelude.{◌≡◌, ◌⊎◌, ◌<◌, ◌≤◌, �
 ghost use Rattle.std.specs.Prelude.{MatchOption, MatchResult};
 ghost use mathlib.Core.List.{IsPrefix};
 ghost use Rattle.left_right.specs.Sides.{view as knowledge};
-ghost use Rattle.runtime.specs.Logs.{IsOpenOver, version_of};
+ghost use Rattle.schedule.specs.Known.{IsKnown};
+ghost use Rattle.runtime.specs.Logs.{IsOpenOver, log_map, version_of};
 ghost use Rattle.runtime.specs.Serves.{IsAnswer, IsUnanswered};
 ghost use Rattle.runtime.specs.Publication.{IsFold, IsLater, has_seen};
 ghost use Rattle.runtime.specs.Submissions.{recent_outcome};
@@ -14,7 +15,7 @@ use crate::publication::{See, StateReader, StateReading};
 use crate::published::Published;
 use crate::submission_status::SubmissionStatus;
 use crate::trace::Trace;
-use schedule::{Command, Reply, perform};
+use schedule::{Command, Known, Reply, perform_open};
 use std::alloc::{AllocError, Global};
 use thiserror::Error;
 use txn::Transaction;
@@ -114,18 +115,24 @@ fn status_there(state: &Published, client: u64, number: u64) -> (LogPrefix, Subm
 }
 
 /// Performs a command in the transaction's store over the servers, where these have pulled a log
-/// that begins with the transaction's.
+/// that begins with the transaction's. A store that is known stands over the transaction's log, and
+/// so over theirs.
 fn perform_over(
     state: &Published,
     alloc: Global,
     prefix: &LogPrefix,
     tx: &mut Transaction,
     trace: &mut Trace,
+    known: &mut Known,
     command: &Command,
 ) -> Result<Reply, EnterError>
     requires state { IsFold state.now × (state.now.prefix.name ≡ prefix.now.name) }
     requires over { IsOpenOver prefix.now.name.config prefix.now.log tx.old trace.old }
     requires at { tx.old.read_version ≡ version_of prefix.now.name.config prefix.now.log }
+    requires known { IsKnown trace.old.store
+        (log_map prefix.now.name.config prefix.now.log) known.old.store tx.old }
+    ensures known { IsKnown trace.old.store
+        (log_map prefix.now.name.config prefix.now.log) known.new.store tx.new }
     ensures answer { IfOk result (λ reply.
         IsAnswer prefix.now.name.config prefix.now.log
         tx.old trace.old command.now reply) }
@@ -147,7 +154,7 @@ fn perform_over(
         return Err(EnterError::TooOld);
     }
     prove!(prefix.version() <= u64::MAX);
-    match perform(alloc, command, trace.store, tx, &state.tier) {
+    match perform_open(alloc, command, trace.store, tx, &state.tier, known) {
         Ok(reply) => {
             trace.add(command, &reply);
             Ok(reply)
@@ -194,10 +201,48 @@ pub fn perform_at(
     ensures unentered { result.1 ≡ Err EnterError.NotEntered
         → IsPrefix result.2.log prefix.now.log }
 {
+    let mut known = Known::new();
+    perform_open_at(reader, alloc, prefix, tx, trace, &mut known, command)
+}
+
+/// The same, where the transaction's store may stand open, as an earlier command of it left it.
+pub(crate) fn perform_open_at(
+    reader: StateReader,
+    alloc: Global,
+    prefix: &LogPrefix,
+    tx: &mut Transaction,
+    trace: &mut Trace,
+    known: &mut Known,
+    command: &Command,
+) -> (StateReader, Result<Reply, EnterError>, LogPrefix)
+    requires reader { (knowledge reader.place).named ≡ true }
+    requires prefix { prefix.now.name ≡ (knowledge reader.place).prefix.name }
+    requires over { IsOpenOver prefix.now.name.config prefix.now.log tx.old trace.old }
+    requires at { tx.old.read_version ≡ version_of prefix.now.name.config prefix.now.log }
+    requires known { IsKnown trace.old.store
+        (log_map prefix.now.name.config prefix.now.log) known.old.store tx.old }
+    ensures known { IsKnown trace.old.store
+        (log_map prefix.now.name.config prefix.now.log) known.new.store tx.new }
+    ensures reader { (knowledge result.0.place ≡ knowledge reader.place)
+        ⊎ (knowledge result.0.place ≡ has_seen result.2) }
+    ensures seen { result.2.name ≡ prefix.now.name }
+    ensures answer { IfOk result.1 (λ reply.
+        IsAnswer prefix.now.name.config prefix.now.log
+        tx.old trace.old command.now reply) }
+    ensures done { IfOk result.1 (λ reply.
+        trace.new ≡ with_performed trace.old (record { command = command.now; reply = reply })) }
+    ensures over { IsOpenOver prefix.now.name.config prefix.now.log tx.new trace.new }
+    ensures version { tx.new.read_version ≡ tx.old.read_version }
+    ensures store { trace.new.store ≡ trace.old.store }
+    ensures refused { IfErr result.1 (λ error.
+        IsUnanswered prefix.now result.2.log error command.now tx.old trace.old tx.new trace.new) }
+    ensures unentered { result.1 ≡ Err EnterError.NotEntered
+        → IsPrefix result.2.log prefix.now.log }
+{
     match enter(reader) {
         Ok(reading) => {
             let state = reading.get();
-            let answer = perform_over(state, alloc, prefix, tx, trace, command);
+            let answer = perform_over(state, alloc, prefix, tx, trace, known, command);
             let seen = state.prefix.again();
             (reading.leave(), answer, seen)
         }

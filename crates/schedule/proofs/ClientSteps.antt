@@ -6,7 +6,7 @@ use Rattle.schedule.specs.declared.refusal.Refusal.TheVariants.{NoSuchStore, NoT
 use Rattle.cluster_core.specs.Cluster.{ClusterState, database_at, tier_of}
 use Rattle.cluster_core.specs.History.{IsLegal}
 use Rattle.cluster_core.specs.Roles.{history}
-use Rattle.txn.specs.Refusing.{MayRefuse}
+use Rattle.cluster_core.specs.Refusing.{MayRefuse}
 use Rattle.record_store.specs.Layout.{is_store_number}
 use Rattle.schedule.specs.declared.step.Command.{Command}
 use Rattle.schedule.specs.declared.step.Step.TheVariants.{Begin, Perform, Commit, Abandon}

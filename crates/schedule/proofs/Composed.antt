@@ -13,7 +13,7 @@ use Rattle.cluster_core.specs.History.{Entry, map_at, IsRising, IsLegal}
 use Rattle.cluster_core.specs.Decision.{numbered, cause, is_committed}
 use Rattle.cluster_core.specs.Roles.{PipelineState, entries, history, outcome, told, told_of}
 use Rattle.cluster_core.specs.Serial.{after_commands, AllReplied, Replays, state_at}
-use Rattle.txn.specs.Refusing.{MayRefuse}
+use Rattle.cluster_core.specs.Refusing.{MayRefuse}
 use Rattle.cluster_core.proofs.Causes.{cause_decides}
 use Rattle.cluster_core.proofs.Composition.{holds_at, replied_at}
 use Rattle.cluster_core.proofs.Versions.{rising-filter, rising-numbered}
@@ -261,7 +261,8 @@ module _ (p : PipelineState) (subs : List Submission) where
         (λ k h. ap (λ v. get (maps v) k) is.at) ((holds_committed open_now.read_version is.seen).each open_now.store is.store) in
         record { added = ranges; each = have; are = are_these }
 
-    open_sees : (open_now : Open) (request : CommitRequest) → IsOpenTransaction maps p.reported open_now request → Stands open_now.store (seen request (maps open_now.read_version)) (view (commits_of p subs) open_now)
+    -- what it sees at its read version is its store, or none
+    pub open_sees : (open_now : Open) (request : CommitRequest) → IsOpenTransaction maps p.reported open_now request → Stands open_now.store (seen request (maps open_now.read_version)) (view (commits_of p subs) open_now)
     open_sees open_now request is =
         subst (Stands open_now.store (seen request (maps open_now.read_version))) (attempts_effects (committed_store open_now.store (commits_of p subs) open_now.read_version) open_now.attempts)
         (done_serve open_now.store maps open_now.attempts (fresh_request open_now.read_version) request is.done (maps open_now.read_version) (committed_store open_now.store (commits_of p subs) open_now.read_version)
@@ -291,7 +292,7 @@ module _ (p : PipelineState) (subs : List Submission) where
     requests_all = requests_each p.start subs p.requests are
 
     -- a reply that was right over every map is right by what the transaction sees
-    pub performed_right : (open_now : Open) (request new : CommitRequest) (refuses : ℕ → KeyRange → Rattle.cluster_core.specs.declared.answers.ReadError.ReadError → Type 0) (command : Command) (answer : Reply) →
+    pub performed_right : (open_now : Open) (request new : CommitRequest) (refuses : ℕ → KeyRange → Rattle.kv_core.specs.declared.snapshot.ReadError.ReadError → Type 0) (command : Command) (answer : Reply) →
         IsOpenTransaction maps p.reported open_now request → IsPerformed open_now.store maps (refuses request.read_version) command answer request new →
         IsServed open_now.store (after_all (commands_written open_now.store (maps open_now.read_version) (committed_store open_now.store (commits_of p subs) open_now.read_version) (accepted open_now.attempts)) (maps open_now.read_version))
         (commands_written open_now.store (maps open_now.read_version) (committed_store open_now.store (commits_of p subs) open_now.read_version) (accepted open_now.attempts)) (view (commits_of p subs) open_now) command answer

@@ -12,7 +12,7 @@ use Rattle.cluster_core.specs.Roles.{PipelineState, append, done_with, history, 
 use Rattle.cluster_core.specs.Tier.{TierState, part}
 use Rattle.cluster_core.specs.declared.answers.Config.{Config}
 use Rattle.planner.specs.Asked.{AskedPlan}
-use Rattle.txn.specs.Refusing.{MayRefuse}
+use Rattle.cluster_core.specs.Refusing.{MayRefuse}
 use Rattle.schedule.specs.declared.step.Step.{Step}
 use Rattle.schedule.specs.declared.step.Step.TheVariants.{Begin, Perform, Execute, Commit, Abandon, Resolve, Log, Pull, Report, Lost, Settle}
 use Rattle.schedule.specs.declared.reply.Reply.{Reply}

@@ -3,7 +3,7 @@ use Rattle.std.proofs.Common.{◌≡◌, ℕ, zero, suc, Bool, true, false, List
 use Rattle.kv_core.specs.Range.{KeyRange}
 use Rattle.kv_core.specs.Map.{Map}
 use Rattle.kv_core.specs.declared.change.CommitRequest.{CommitRequest}
-use Rattle.cluster_core.specs.declared.answers.ReadError.{ReadError}
+use Rattle.kv_core.specs.declared.snapshot.ReadError.{ReadError}
 use Rattle.txn.proofs.Running.{ran_still}
 use Rattle.metadata.specs.declared.cells.Cell.{Cell}
 use Rattle.metadata.specs.declared.index.IndexDefinition.{IndexDefinition}

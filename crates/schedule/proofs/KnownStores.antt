@@ -5,16 +5,16 @@ use Rattle.kv_core.specs.Map.{Map}
 use Rattle.kv_core.specs.declared.change.CommitRequest.{CommitRequest}
 use Rattle.txn.specs.Reads.{seen}
 use Rattle.metadata.specs.declared.cells.Cell.{Cell}
-use Rattle.metadata.specs.Record.{Record, key_of}
+use Rattle.metadata.specs.Record.{Record, key_of, record_of}
 use Rattle.metadata.specs.Schema.{find_index}
 use Rattle.query.specs.declared.filter.Query as declared
 use Rattle.planner.specs.Asked.{AskedPlan}
 use Rattle.record_store.specs.declared.error.StoreError.{StoreError}
 use Rattle.record_store.specs.Call.{Footprint, IsAnswered, IsOpenAs, Opened, Service, call_on, service_of}
-use Rattle.record_store.specs.Calls.{aggregate_call, load_call, load_footprint, remove_call, remove_footprint, save_call, save_footprint, total_footprint}
+use Rattle.record_store.specs.Calls.{aggregate_call, load_call, load_footprint, remove_call, remove_footprint, save_as_call, save_footprint, total_footprint}
 use Rattle.record_store.specs.Holds.{Holds}
 use Rattle.record_store.specs.Layout.{store_prefix}
-use Rattle.record_store.specs.Meaning.{Meaning, by_schema, load_meaning, own_record, remove_meaning, save_meaning, total_meaning, totalled_index}
+use Rattle.record_store.specs.Meaning.{Meaning, by_schema, load_meaning, remove_meaning, save_meaning, total_meaning, totalled_index}
 use Rattle.record_store.specs.Opening.{IsOpened, StandsThere}
 use Rattle.record_store.specs.Store.{Store}
 use Rattle.record_store.proofs.Reopening.{answered_stays, opened_there_stands, read_stays}
@@ -68,10 +68,10 @@ module _ (maps : ℕ → Map) (opened : Opened) (old new : CommitRequest) where
       answered_stays maps opened (load_call opened name cells) answer old new is
       (call_keeps load_meaning (load_footprint opened) (by_schema (key_of opened.schema name cells)) is.service opened is.accepted (λ key store same. same))
 
-  pub save_stays : (r : Record) (answer : Option Record) → IsAnswered maps opened (save_call opened r) answer old new → StandsThere maps opened old → StandsThere maps opened new
-  save_stays r answer is =
-      answered_stays maps opened (save_call opened r) answer old new is
-      (call_keeps save_meaning (save_footprint opened) (own_record opened.schema r) is.service opened is.accepted (λ one store same. record { schema = same.schema; states = same.states }))
+  pub save_stays : (name : List ℕ) (cells : List Cell) (answer : Option Record) → IsAnswered maps opened (save_as_call opened name cells) answer old new → StandsThere maps opened old → StandsThere maps opened new
+  save_stays name cells answer is =
+      answered_stays maps opened (save_as_call opened name cells) answer old new is
+      (call_keeps save_meaning (save_footprint opened) (by_schema (record_of opened.schema name cells)) is.service opened is.accepted (λ one store same. record { schema = same.schema; states = same.states }))
 
   pub remove_stays : (name : List ℕ) (cells : List Cell) (answer : Bool) → IsAnswered maps opened (remove_call opened name cells) answer old new → StandsThere maps opened old → StandsThere maps opened new
   remove_stays name cells answer is =

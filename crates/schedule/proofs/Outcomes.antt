@@ -1,18 +1,15 @@
 -- What commands come to, from what the calls that they make on the store establish.
-use Rattle.std.proofs.Common.{◌≡◌, ℕ, true, not, cond, List, [], ◌++◌, inl, inr, refl, sym, ap, subst, ◌∙◌, append-nil, Some, None, Ok, Err, Result}
+use Rattle.std.proofs.Common.{◌≡◌, ℕ, true, not, cond, List, [], ◌++◌, inl, inr, refl, sym, ap, subst, ◌∙◌, append-nil, Some, None, Ok, Err}
 use Rattle.kv_core.specs.Range.{KeyRange}
 use Rattle.kv_core.specs.Map.{Map, after_all}
 use Rattle.kv_core.specs.Limits.{write_all_refusal}
 use Rattle.kv_core.specs.declared.change.CommitRequest.{CommitRequest}
-use Rattle.cluster_core.specs.declared.answers.ReadError.{ReadError}
+use Rattle.kv_core.specs.declared.snapshot.ReadError.{ReadError}
 use Rattle.txn.proofs.Running.{ran_because, ran_then}
-use Rattle.metadata.specs.declared.refusal.MetadataError.{MetadataError}
 use Rattle.metadata.specs.declared.refusal.MetadataError.TheVariants as meta
-use Rattle.metadata.specs.declared.refusal.Refusal.{Refusal as SchemaRefusal}
 use Rattle.schedule.specs.Refusals.{of_schema, reply_of}
 use Rattle.schedule.specs.declared.refusal.Refusal.{Refusal}
 use Rattle.schedule.specs.declared.refusal.Refusal.TheVariants.{AlreadyThere, NoStore, NotAggregate, NotBuilt, NotReadable, OtherSchema, WrongState}
-use Rattle.metadata.specs.Answers.{IsRefusedAs}
 use Rattle.record_store.specs.declared.error.StoreError.{StoreError}
 use Rattle.record_store.specs.declared.error.StoreError.TheVariants.{Memory, Read, Write, Corrupt, Refused}
 use Rattle.record_store.specs.declared.error.StoreError.TheVariants as fault
@@ -21,7 +18,7 @@ use Rattle.record_store.specs.Holds.{Holds}
 use Rattle.record_store.specs.Call.{AtStore, Call, IsAnswered, IsDamagedAt, IsDone, IsFailure, IsOpenAs, IsRefusedThere, Opened, Reading, Service, whole}
 use Rattle.record_store.specs.Call as call
 use Rattle.record_store.specs.Opening.{AtSerials, HasSchema, IsOpenFailure, IsOpened, IsThereAs, IsUnopened, opening_reach}
-use Rattle.record_store.specs.Steps.{IsBeginning, IsNextRefused, of_metadata}
+use Rattle.record_store.specs.Steps.{IsBeginning, IsNextRefused}
 use Rattle.record_store.specs.Layout.{store_prefix}
 use Rattle.record_store.proofs.Stopping.{begin_behind}
 use Rattle.schedule.specs.declared.step.Command.{Command}
@@ -304,14 +301,6 @@ pub refused : (number : ℕ) {maps : ℕ → Map} {refuses : KeyRange → ℕ �
 refused number {maps = maps} {refuses = refuses} {old = old} {mid = mid} {new = new} opened command asked told error opens here meets is_opened is =
     refused_at number opened command (asked (at number opened)) told error opens meets (subst (λ o. IsOpened maps o old mid) (located number opened here) is_opened)
     (subst (λ o. call.IsRefused maps refuses o (asked o) error mid new) (located number opened here) is)
-
--- OWN REFUSAL: what the command asks for is refused by the schema, before a call is made
-pub refused_asked : (number : ℕ) {maps : ℕ → Map} {refuses : KeyRange → ℕ → ReadError → Type 0} {old mid : CommitRequest} {A : Type 0} (opened : Opened) (command : Command) (outcome : Result A SchemaRefusal) (error : MetadataError) →
-    open_reach number command ≡ opening_reach (store_prefix number) → opened.prefix ≡ store_prefix number →
-    ((refusal : SchemaRefusal) → outcome ≡ Err refusal → Refuses number (at number opened) command (Refused refusal)) → IsOpened maps opened old mid → IsRefusedAs error outcome → IsCommandRefused number maps refuses command (of_metadata error) old mid
-refused_asked number {maps = maps} {old = old} {mid = mid} opened command outcome meta.Memory opens here so is_opened is = memory_opened number opened command opens (subst (λ o. IsOpened maps o old mid) (located number opened here) is_opened)
-refused_asked number {maps = maps} {old = old} {mid = mid} opened command outcome (meta.Refused refusal) opens here so is_opened is =
-    refused_own number opened command (Refused refusal) (so refusal is) (subst (λ o. IsOpened maps o old mid) (located number opened here) is_opened)
 
 -- AS: the reply is an equal one
 pub answered_as : (number : ℕ) {maps : ℕ → Map} {refuses : KeyRange → ReadError → Type 0} {command : Command} {answer made : Reply} {old new : CommitRequest} → answer ≡ made → IsPerformed number maps refuses command made old new → IsPerformed number maps refuses command answer old new

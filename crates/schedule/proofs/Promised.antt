@@ -15,7 +15,7 @@ use Rattle.metadata.specs.IndexChange.{new_index}
 use Rattle.metadata.specs.Record.{Record, key_of, record_of}
 use Rattle.metadata.specs.Schema.{Schema, find_index}
 use Rattle.kv_core.specs.declared.change.WriteError.TheVariants as write
-use Rattle.cluster_core.specs.declared.answers.ReadError.TheVariants as read
+use Rattle.kv_core.specs.declared.snapshot.ReadError.TheVariants as read
 use Rattle.record_store.specs.declared.error.StoreError.{StoreError}
 use Rattle.record_store.specs.declared.error.StoreError.TheVariants as fault
 use Rattle.record_store.specs.Meaning.{Meaning, by_schema, drop_meaning, index_meaning, index_number, load_meaning, mark_meaning, readable_meaning, remove_meaning, save_meaning, state_meaning}

@@ -14,9 +14,9 @@ use Rattle.kv_core.specs.declared.change.CommitRequest.{CommitRequest}
 use Rattle.kv_core.specs.declared.change.Mutation.{Mutation}
 use Rattle.kv_core.specs.declared.change.WriteError.{WriteError}
 use Rattle.cluster_core.specs.declared.answers.Config.{Config}
-use Rattle.cluster_core.specs.declared.answers.ReadError.{ReadError}
+use Rattle.kv_core.specs.declared.snapshot.ReadError.{ReadError}
 use Rattle.cluster_core.specs.Cluster.{ClusterState, database_at, tier_of}
-use Rattle.txn.specs.Refusing.{MayRefuse}
+use Rattle.cluster_core.specs.Refusing.{MayRefuse}
 use Rattle.txn.specs.Runs.{with_ranges}
 use Rattle.metadata.specs.declared.index.State.{State}
 use Rattle.metadata.specs.Schema.{Schema}

@@ -10,8 +10,8 @@ use Rattle.kv_core.specs.declared.change.Mutation.{Mutation}
 use Rattle.kv_core.specs.declared.change.WriteError.{WriteError}
 use Rattle.kv_core.specs.declared.change.WriteError.TheVariants as limits
 use Rattle.kv_core.proofs.Changes.{after_all-append}
-use Rattle.cluster_core.specs.declared.answers.ReadError.{ReadError}
-use Rattle.cluster_core.specs.declared.answers.ReadError.TheVariants as reads
+use Rattle.kv_core.specs.declared.snapshot.ReadError.{ReadError}
+use Rattle.kv_core.specs.declared.snapshot.ReadError.TheVariants as reads
 use Rattle.schedule.specs.Refusals.{read_reply}
 use Rattle.schedule.specs.declared.refusal.Refusal.TheVariants.{FutureVersion, TooOld}
 use Rattle.txn.specs.Reads.{seen}

@@ -7,7 +7,7 @@ use Rattle.kv_core.specs.declared.change.CommitRequest.{CommitRequest}
 use Rattle.kv_core.specs.declared.change.Mutation.{Mutation}
 use Rattle.cluster_core.specs.declared.answers.Config.{Config}
 use Rattle.cluster_core.specs.Cluster.{ClusterState, database_at, tier_of}
-use Rattle.txn.specs.Refusing.{MayRefuse}
+use Rattle.cluster_core.specs.Refusing.{MayRefuse}
 use Rattle.txn.specs.Runs.{with_ranges}
 use Rattle.record_store.specs.Store.{Serial}
 use Rattle.schedule.specs.declared.step.Command.{Command}

@@ -14,10 +14,10 @@ abbrev pub IsKnown : ℕ → (ℕ → Map) → Option Opened → CommitRequest �
 IsKnown number maps None tx = Unit {0}
 IsKnown number maps (Some opened) tx = (opened.prefix ≡ store_prefix number) × StandsThere maps opened tx
 
--- Private: at its read version the transaction sees a store there, or none
+-- at its read version the transaction sees a store there, or none
 abbrev pub SeesSerial : ℕ → (ℕ → Map) → CommitRequest → Type 0
 SeesSerial number maps tx = (serial : Serial) × Stands number (seen tx (maps tx.read_version)) serial
 
--- Private: where the transaction saw a store or none before a command, what is known after it stands there
+-- where the transaction saw a store or none before a command, what is known after it stands there
 abbrev pub StaysKnown : ℕ → (ℕ → Map) → Option Opened → CommitRequest → CommitRequest → Type 0
 StaysKnown number maps known old new = SeesSerial number maps old → IsKnown number maps known new

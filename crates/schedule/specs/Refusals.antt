@@ -8,8 +8,8 @@ use Rattle.query.specs.declared.error.QueryError.{QueryError}
 use Rattle.query.specs.declared.error.QueryError.TheVariants as query
 use Rattle.kv_core.specs.declared.change.WriteError.{WriteError}
 use Rattle.kv_core.specs.declared.change.WriteError.TheVariants as write
-use Rattle.cluster_core.specs.declared.answers.ReadError.{ReadError}
-use Rattle.cluster_core.specs.declared.answers.ReadError.TheVariants as read
+use Rattle.kv_core.specs.declared.snapshot.ReadError.{ReadError}
+use Rattle.kv_core.specs.declared.snapshot.ReadError.TheVariants as read
 use Rattle.schedule.specs.declared.reply.Reply.{Reply}
 use Rattle.schedule.specs.declared.reply.Reply.TheVariants as reply
 use Rattle.schedule.specs.declared.refusal.Refusal.{Refusal}

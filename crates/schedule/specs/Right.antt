@@ -10,7 +10,7 @@ use Rattle.cluster_core.specs.declared.answers.Config.{Config}
 use Rattle.cluster_core.specs.Cluster.{ClusterState, tier_of}
 use Rattle.cluster_core.specs.History.{IsLegal}
 use Rattle.cluster_core.specs.Roles.{history}
-use Rattle.txn.specs.Refusing.{MayRefuse}
+use Rattle.cluster_core.specs.Refusing.{MayRefuse}
 use Rattle.record_store.specs.Store.{Serial}
 use Rattle.schedule.specs.declared.step.Command.{Command}
 use Rattle.schedule.specs.declared.step.Step.{Step}

@@ -10,7 +10,7 @@ use Rattle.cluster_core.specs.declared.answers.Work.TheVariants as works
 use Rattle.cluster_core.specs.Cluster.{ClusterState, database_at, tier_of, with_pipeline}
 use Rattle.cluster_core.specs.Configuration.{first_cluster}
 use Rattle.cluster_core.specs.Roles.{may_report, outcome, report, submitted}
-use Rattle.txn.specs.Refusing.{MayRefuse}
+use Rattle.cluster_core.specs.Refusing.{MayRefuse}
 use Rattle.schedule.specs.declared.step.Command.{Command}
 use Rattle.schedule.specs.declared.step.Step.{Step}
 use Rattle.schedule.specs.declared.step.Step.TheVariants.{Commit}

@@ -1,20 +1,20 @@
 // The commands on types and records, and the opening of the store. Called by `performing`; the
 // opening also by the modules of the other commands.
-ghost use Rattle.std.specs.Prelude.{◌≡◌, None, Ok, IfOk, IfErr, OnOk};
-ghost use Rattle.metadata.specs.Answers.{IsRefusedAs};
-ghost use Rattle.metadata.specs.Record.{record_of};
+ghost use Rattle.std.specs.Prelude.{◌≡◌, None, IfOk, IfErr, OnOk};
+ghost use Rattle.std.specs.Option.{option_map_or};
 ghost use Rattle.record_store.specs.Layout.{store_prefix};
 ghost use Rattle.record_store.specs.Opening.{AreAllowed, IsOpened, IsUnopened, StandsThere};
 ghost use Rattle.record_store.specs.Opening.{opening_reach};
+ghost use Rattle.schedule.specs.declared.reply.Reply.TheVariants.{Absent, Found};
 ghost use Rattle.schedule.specs.declared.step.Command.{Command};
-ghost use Rattle.schedule.specs.Serve.{reply_to_load, reply_to_remove, reply_to_save};
+ghost use Rattle.schedule.specs.Serve.{reply_to_remove, reply_to_save};
 ghost use Rattle.schedule.specs.Performed.{IsPerformed};
 ghost use Rattle.schedule.specs.Calls.{IsCommandRefused};
 ghost use Rattle.schedule.specs.Known.{IsKnown, SeesSerial, StaysKnown};
 
 use crate::known::Known;
 use crate::reply::Reply;
-use metadata::{Cells, Field, MetadataError, Record, Schema, SchemaRequest, TypeRequest};
+use metadata::{Cells, Field, Record, Schema, SchemaRequest, TypeRequest};
 use record_store::{Store, StoreError, StoreNumber};
 use std::alloc::Global;
 use tuple_codec::Text;
@@ -119,20 +119,6 @@ pub(crate) fn add_field<S: Snapshot>(
     Ok(Reply::Done)
 }
 
-/// The record of the type of this name with these cells.
-fn record_asked(
-    alloc: Global,
-    schema: &Schema,
-    type_name: &Text,
-    cells: &Cells,
-) -> Result<Record, MetadataError>
-    ensures made { IfOk result (λ made. record_of schema.now type_name.now cells.now ≡ Ok made) }
-    ensures refused { IfErr result (λ error. IsRefusedAs error (record_of schema.now type_name.now cells.now)) }
-{
-    let cells = cells.copy()?;
-    Record::new(alloc, schema, type_name, cells)
-}
-
 /// The reply to a save, by the record that was there.
 fn saved_reply(old: Option<Record>) -> Reply
     ensures { result ≡ reply_to_save old }
@@ -164,18 +150,17 @@ pub(crate) fn save<S: Snapshot>(
         (Command.Save type_name.now cells.now) error tx.old tx.new) }
 {
     let store = open(alloc, number, tx, db, known)?;
-    let new = record_asked(alloc, store.schema(), type_name, cells)?;
-    let old = store.save(tx, db, &new)?;
+    let old = store.save_as(tx, db, type_name, cells)?;
     known.store = Some(store);
     Ok(saved_reply(old))
 }
 
-/// The reply to a load, by the record that was found.
-fn loaded_reply(found: Option<Record>) -> Reply
-    ensures { result ≡ reply_to_load found }
+/// The reply to a load, by the cells of the record that was found.
+fn loaded_reply(found: Option<Cells>) -> Reply
+    ensures { result ≡ option_map_or Found found Absent }
 {
     match found {
-        Some(found) => Reply::Found(found.into_cells()),
+        Some(cells) => Reply::Found(cells),
         None => Reply::Absent,
     }
 }
@@ -201,7 +186,7 @@ pub(crate) fn load<S: Snapshot>(
         (Command.Load type_name.now cells.now) error tx.old tx.new) }
 {
     let store = open(alloc, number, tx, db, known)?;
-    let found = store.load(tx, db, type_name, cells)?;
+    let found = store.load_cells(tx, db, type_name, cells)?;
     known.store = Some(store);
     Ok(loaded_reply(found))
 }

@@ -1,20 +1,24 @@
 // What is known while commands are performed. Kept by who performs them one after another:
-// `running`, `stepwise` and `clients`; asked when a command opens its store, by `commands`.
+// `running`, `stepwise`, `clients` and, on threads, `runtime`; asked when a command opens its store,
+// by `commands`.
 ghost use Rattle.std.specs.Prelude.{◌≡◌, None};
 
 use record_store::{KnownSchema, Store};
 
-/// The schema that was decoded last, and the store as a command left it open in the transaction,
-/// where that is known.
+/// What the commands of a transaction know of its store: the schema that was decoded last, and the
+/// store as a command left it open, where that is known.
+///
+/// It changes no reply. Each command of a transaction is given the same one (`perform_open`). The
+/// schema may stay for another transaction, in any store; the store may not.
 #[derive(Drop)]
-pub(crate) struct Known {
-    pub(crate) schema: KnownSchema,
-    pub(crate) store: Option<Store>,
+pub struct Known {
+    pub schema: KnownSchema,
+    pub store: Option<Store>,
 }
 
 impl Known {
-    /// Nothing is known.
-    pub(crate) fn new() -> Known
+    /// Nothing is known, which takes no memory.
+    pub fn new() -> Known
         ensures { result.store ≡ None }
     {
         Known::of(KnownSchema::new())
@@ -28,5 +32,12 @@ impl Known {
             schema,
             store: None,
         }
+    }
+
+    /// Lets the store go, as where its transaction ends. The schema stays.
+    pub fn let_go(&mut self)
+        ensures { self.new ≡ record self.old { store = None } }
+    {
+        self.store = None;
     }
 }

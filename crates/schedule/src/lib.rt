@@ -34,7 +34,8 @@ mod transcript;
 
 pub use asked_query::AskedQuery;
 use cluster_core::Config;
-pub use performing::{perform, perform_knowing};
+pub use known::Known;
+pub use performing::{perform, perform_knowing, perform_open};
 pub use refusal::Refusal;
 pub use reply::{Reply, Report, Reports, Rows};
 use running::start;

@@ -162,10 +162,14 @@ pub fn perform_knowing<S: Snapshot>(
     reply
 }
 
-/// The same, where the store may be known too, as a command left it open in the transaction: then
-/// it needn't be opened anew. After a command that may change the schema or the state of an index
-/// it isn't known.
-pub(crate) fn perform_open<S: Snapshot>(
+/// The same, where the store may stand open too, as an earlier command of the transaction left it:
+/// then it needn't be opened anew.
+///
+/// The store that is known is to be the one of this number, and to stand there as the transaction
+/// sees it, as it does after a command of this transaction: let it go (`Known::let_go`) before
+/// another one begins. After a command that may change the schema or the state of an index no store
+/// is known.
+pub fn perform_open<S: Snapshot>(
     alloc: Global,
     command: &Command,
     number: StoreNumber,

@@ -1,5 +1,5 @@
 // Configurations: which are refused, and why; and the last version of servers. Run as tests;
-// `clusters` and `commits` make their configurations by it.
+// `clusters` and `committing` make their configurations by it.
 use cluster_core::{Cluster, Config, ConfigError, Pipeline, Splits, Tier};
 use std::alloc::Global;
 use std::test::Fail;

@@ -6,7 +6,7 @@ mod cells;
 #[cfg(test)]
 mod clusters;
 #[cfg(test)]
-mod commits;
+mod committing;
 #[cfg(test)]
 mod configs;
 #[cfg(test)]

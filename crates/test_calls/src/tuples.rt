@@ -89,7 +89,7 @@ fn order(alloc: Global, first: &str, second: &str, told: &str) -> Result<(), Fai
 
 fn text_copied(alloc: Global, text: &str, told: &str) -> Result<(), Fail> {
     let copy = text_of(alloc, text)?.copy()?;
-    same(copy.into_string().as_str(), told)
+    same(copy.as_str(), told)
 }
 
 fn bytes_copied(alloc: Global, digits: &str, told: &str) -> Result<(), Fail> {

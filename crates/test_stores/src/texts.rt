@@ -1,5 +1,6 @@
 // The texts of errors. Run as a test.
 use cluster_core::{ConfigError, ReadError, Reported, SubmitError};
+use commits::HoldError;
 use explain::ExplainError;
 use kv_core::{Bytes, WriteError};
 use metadata::{MetadataError, Refusal};
@@ -11,7 +12,6 @@ use std::alloc::{AllocError, Global};
 use std::test::Fail;
 use test_parts::same;
 use tuple_codec::{StripError, UnpackError, UnpackErrorKind, UnpackFailure};
-use txn::HoldError;
 
 /// An error of any of the libraries.
 #[derive(Clone, Copy)]

@@ -17,6 +17,7 @@ mod order;
 mod plain;
 mod read;
 mod room;
+mod short_text;
 mod strip;
 mod unpacking;
 mod write;
@@ -24,6 +25,7 @@ mod write;
 use codes::INT_ZERO_CODE;
 pub use keys::{integers_do_not_begin_each_other, keys_are_tuples, prefixes_are_ranges, strinc};
 pub use order::compare;
+use short_text::{KeptText, SHORT_TEXT, ShortText};
 use std::alloc::{AllocError, Global};
 use std::marker::Model;
 pub use strip::{strip_bytes, strip_int, strip_null, strip_text};
@@ -173,19 +175,27 @@ impl ByteString {
     }
 }
 
-/// A text of an element.
-#[derive(Drop)]
+/// A text of an element. Short ones, as most are, lie in the value itself, so that to make or copy
+/// one takes no memory.
 pub struct Text {
-    text: String,
+    kept: KeptText,
+}
+
+// Written out, so that no proof has to tell short from long ones where a text is dropped.
+impl Drop for Text {
+    fn drop(self) {
+        let Text { kept } = self;
+        drop(kept);
+    }
 }
 
 impl Model for Text {
     ghost use Rattle.std.specs.Prelude.{ℕ, List};
-    ghost use Rattle.std.specs.String.{string_bytes};
+    ghost use Rattle.tuple_codec.specs.KeptText.{kept_text};
 
     ghost Value = { List ℕ };
 
-    ghost view = { λ a. string_bytes a.text };
+    ghost view = { λ a. kept_text a.kept };
 }
 
 impl Text {
@@ -193,37 +203,49 @@ impl Text {
     pub fn new(text: String) -> Text
         ensures { result ≡ string_bytes text }
     {
-        Text { text }
+        if text.len() <= SHORT_TEXT {
+            // The copy in the value itself gives the memory back.
+            let short = ShortText::new(text.as_str());
+            return Text {
+                kept: KeptText::Short(short),
+            };
+        }
+        Text {
+            kept: KeptText::Long(text),
+        }
     }
 
     /// The text of this string, copied.
     pub fn from_str(alloc: Global, text: &str) -> Result<Text, AllocError>
         ensures { IfOk result (λ made. made ≡ text.now) }
     {
-        let text = String::from_str(alloc, text)?;
-        Ok(Text { text })
+        let kept = if text.len() <= SHORT_TEXT {
+            KeptText::Short(ShortText::new(text))
+        } else {
+            KeptText::Long(String::from_str(alloc, text)?)
+        };
+        Ok(Text { kept })
     }
 
     /// The text.
     pub fn as_str(&self) -> &str
         ensures { result.now ≡ self.now }
     {
-        self.text.as_str()
-    }
-
-    /// The text, handed back.
-    pub fn into_string(self) -> String
-        ensures { string_bytes result ≡ self }
-    {
-        self.text
+        match &self.kept {
+            KeptText::Short(short) => short.as_str(),
+            KeptText::Long(text) => text.as_str(),
+        }
     }
 
     /// An equal text, unless memory is wanting.
     pub fn copy(&self) -> Result<Text, AllocError>
         ensures { IfOk result (λ copy. copy ≡ self.now) }
     {
-        let text = self.text.clone()?;
-        Ok(Text { text })
+        let kept = match &self.kept {
+            KeptText::Short(short) => KeptText::Short(short.copy()),
+            KeptText::Long(text) => KeptText::Long(text.clone()?),
+        };
+        Ok(Text { kept })
     }
 }
 

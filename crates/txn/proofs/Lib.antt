@@ -1,6 +1,4 @@
 pub mod Exits
-pub mod Handling
-pub mod GoingOn
 pub mod Merging
 pub mod Rounds
 pub mod OneMore

@@ -17,7 +17,7 @@ use Rattle.kv_core.proofs.Pairs.{directed, inside_read, last_inside, read_of-par
 use Rattle.kv_core.proofs.Parts.{contains-before, contains-from, directed-parts, far, near, part_before-next, part_from-inside}
 use Rattle.txn.specs.Own.{left_of}
 use Rattle.txn.specs.Reading.{CoversTo, IsPlaceBehind, IsReadSoFar, IsRestOf, Tell}
-use Rattle.txn.specs.Parts.{IsPart}
+use Rattle.kv_core.specs.Parts.{IsPart}
 use Rattle.txn.proofs.Merging.{Pairs, length-directed, stored_at, whole_read}
 
 -- whether a key comes before a place in the direction of a read

@@ -7,8 +7,8 @@ use Rattle.kv_core.specs.Map.{Map, Agree, pairs_in}
 use Rattle.kv_core.specs.Range.{KeyRange}
 use Rattle.kv_core.specs.Read.{last_key, range_read}
 use Rattle.kv_core.specs.declared.change.CommitRequest.{CommitRequest}
-use Rattle.cluster_core.specs.declared.answers.ReadError.{ReadError}
-use Rattle.cluster_core.specs.declared.answers.ReadError.TheVariants.{Memory}
+use Rattle.kv_core.specs.declared.snapshot.ReadError.{ReadError}
+use Rattle.kv_core.specs.declared.snapshot.ReadError.TheVariants.{Memory}
 use Rattle.txn.specs.Reads.{has_read, seen}
 use Rattle.txn.specs.declared.cursor.RangeCursor.{RangeCursor}
 use Rattle.txn.specs.declared.cursor.TheConstants.{BATCH}

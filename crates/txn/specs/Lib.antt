@@ -1,9 +1,4 @@
-pub mod Parts
-pub mod Holds
-pub mod Finishing
 pub mod Attempts
-pub mod Refusing
-pub mod Narrowing
 pub mod Own
 pub mod Latest
 pub mod Reading

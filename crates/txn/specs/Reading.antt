@@ -6,7 +6,7 @@ use Rattle.kv_core.specs.Bytes.{key_cmp, key_le, key_lt, next_key}
 use Rattle.kv_core.specs.Map.{Map, pairs_in}
 use Rattle.kv_core.specs.Range.{KeyRange, contains, covers}
 use Rattle.kv_core.specs.Read.{read_of}
-use Rattle.txn.specs.Parts.{IsPart}
+use Rattle.kv_core.specs.Parts.{IsPart}
 use Rattle.txn.specs.Own.{left_of}
 
 -- from the last pair of a read up to this place, in the direction of the read, all keys are covered

@@ -6,10 +6,8 @@ ghost use Rattle.kv_core.specs.Read.{last_key};
 ghost use Rattle.txn.specs.Cursor.{IsNextBatch, IsNoBatch, rest_behind};
 
 use crate::read::{last_key, range_read};
-use crate::snapshot::Snapshot;
 use crate::transaction::Transaction;
-use cluster_core::ReadError;
-use kv_core::{KeyRange, Pair};
+use kv_core::{KeyRange, Pair, ReadError, Snapshot};
 use std::alloc::AllocError;
 
 /// How many pairs a cursor reads at a time.

@@ -3,9 +3,7 @@
 ghost use Rattle.std.specs.Prelude.{◌≡◌, ◌⊎◌, IfErr};
 ghost use Rattle.std.proofs.Common.{inl, inr};
 
-use crate::snapshot::Snapshot;
-use cluster_core::ReadError;
-use kv_core::{Bytes, KeyRange, Pair};
+use kv_core::{Bytes, KeyRange, Pair, ReadError, Snapshot};
 use std::cell::Cell;
 
 /// Another snapshot, whose read of this number, counted from 1, is refused with this error. The

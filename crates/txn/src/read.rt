@@ -9,9 +9,7 @@ ghost use Rattle.txn.specs.Own.{IsUnder, own_state};
 ghost use Rattle.txn.specs.Reading.{CoversTo, IsPlaceBehind, IsReadSoFar, IsRestOf};
 
 use crate::own::OwnWrites;
-use crate::snapshot::Snapshot;
-use cluster_core::ReadError;
-use kv_core::{Bytes, KeyRange, Pair};
+use kv_core::{Bytes, KeyRange, Pair, ReadError, Snapshot};
 use std::alloc::AllocError;
 
 /// The key of the last pair, or the one given where there is none.

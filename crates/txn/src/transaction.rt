@@ -13,11 +13,9 @@ ghost use Rattle.txn.specs.Reads.{seen, has_read, with_mutation, with_mutations}
 use crate::latest::{Last, Latest};
 use crate::own::OwnWrites;
 use crate::read::{range_read, read_under};
-use crate::snapshot::Snapshot;
-use cluster_core::ReadError;
 use kv_core::{
     Bytes, CommitRequest, KeyRange, MAX_TRANSACTION_BYTES, Mutation, Mutations, Pair, RangeList,
-    WriteError, total_size,
+    ReadError, Snapshot, WriteError, total_size,
 };
 use std::alloc::{AllocError, Global};
 use std::marker::Model;

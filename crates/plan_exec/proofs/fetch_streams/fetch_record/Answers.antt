@@ -1,4 +1,4 @@
-use Rattle.std.proofs.Common.{refl, subst, sym}
+use Rattle.std.proofs.Common.{◌∙◌, refl, subst, sym}
 use Rattle.txn.proofs.Exits.{exit_with}
 use Rattle.plan_exec.specs.Course.{record_course, record_there}
 use Rattle.plan_exec.specs.Errors.{exec_memory, exec_read}
@@ -49,7 +49,7 @@ returns-in_ok-copy-in-None-clause-stopped g c =
     let prefix = c.args.records.now.store.now.prefix in
     let t = c.args.records.now.definition.value in
     let gone = value_gone {maps = g.S.Snapshot.map_at c.args.db.now} prefix t c.args.entry.now c.in_ok-key.key c.in_ok-key.ensures.key c.in_ok-value.field-0 c.in_ok-value.ensures.reads c.in_ok-value.ensures.answer in
-    let copied = c.in_ok-copy-in-None.ensures in
+    let copied = c.in_ok-copy-in-None.ensures ∙ c.key.ensures in
     subst (λ key. HasNotGiven (g.S.Snapshot.map_at c.args.db.now) (g.S.Snapshot.may_refuse c.args.db.now) (λ pairs. record_course prefix pairs t c.args.entry.now) (Corrupt key) c.args.tx.now c.get.new.self) (sym copied)
     (none_not prefix t c.args.entry.now
     (subst (λ o. HasGone (g.S.Snapshot.map_at c.args.db.now) (λ pairs. record_course prefix pairs t c.args.entry.now) (λ pairs. record_there prefix pairs t c.args.entry.now o) c.args.tx.now c.get.new.self) c.in-None.is gone))

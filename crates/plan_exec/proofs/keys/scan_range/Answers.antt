@@ -1,4 +1,4 @@
-use Rattle.std.proofs.Common.{◌∙◌}
+use Rattle.std.proofs.Common.{◌++◌, ◌∙◌, ap}
 use Rattle.kv_core.specs.Bytes.{key_max}
 use Rattle.planner.specs.View.{range_of}
 use Rattle.plan_exec.specs.Reads.{scan_range}
@@ -8,5 +8,7 @@ use Rattle.plan_exec.proofs.keys.scan_range.Goals as goal
 
 pub unreachable-requires : goal.unreachable-requires
 unreachable-requires c =
-    not_refused (scan_range c.args.key.now (range_of c.args.range.now)) c.in_ok-begin.begin c.in_ok-end.end (is_range c.args.key.now (range_of c.args.range.now) c.requires)
-    c.in_ok-begin.ensures (c.in_ok-end.ensures ∙ (λ i. key_max (c.in_ok-begin.ensures i) (c.in_ok-behind.ensures i))) c.in-None.ensures.none
+    let begin = c.in_ok-begin.ensures ∙ ap (λ rest. c.args.key.now ++ rest) c.as_slice.ensures in
+    let end = c.in_ok-joined.ensures ∙ ap (λ rest. c.args.key.now ++ rest) c.as_slice-2.ensures in
+    not_refused (scan_range c.args.key.now (range_of c.args.range.now)) c.in_ok-begin.begin c.in_ok-end.end (is_range c.args.key.now (range_of c.args.range.now) c.requires) begin (c.in_ok-end.ensures ∙ (λ i. key_max (begin i) (end i)))
+    c.in-None.ensures.none

@@ -7,7 +7,7 @@ use Rattle.planner.specs.declared.plan.IndexScan.{IndexScan}
 use Rattle.plan_exec.specs.Course.{Course, all_joined, entries_course}
 use Rattle.plan_exec.specs.Levels.{joined_levels}
 use Rattle.plan_exec.specs.Sources.{entries_left}
-use Rattle.plan_exec.specs.declared.entry.Entry.{Entry}
+use Rattle.plan_exec.specs.Entry.{Entry}
 use Rattle.plan_exec.specs.declared.level.Level.{Level}
 use Rattle.plan_exec.specs.declared.record_streams.EntryStream.{EntryStream}
 use Rattle.plan_exec.proofs.JoinedLevels.{joined_new}

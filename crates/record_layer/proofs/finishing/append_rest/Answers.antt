@@ -1,7 +1,7 @@
 use Rattle.std.proofs.Common.{arith, refl}
 use Rattle.cluster_core.specs.Roles.{may_append, append}
-use Rattle.txn.proofs.GoingOn.{appends_one, appending_first}
-use Rattle.txn.proofs.Handling.{stood-both}
+use Rattle.commits.proofs.GoingOn.{appends_one, appending_first}
+use Rattle.commits.proofs.Handling.{stood-both}
 use Rattle.record_layer.proofs.Settling.{did_pipeline, did_stood}
 use Rattle.record_layer.proofs.finishing.append_rest.Goals as goal
 

@@ -1,6 +1,6 @@
 use Rattle.std.proofs.Common.{◌≡◌}
 use Rattle.cluster_core.specs.Cluster.{with_pipeline}
-use Rattle.txn.proofs.GoingOn.{IsAppending}
+use Rattle.commits.proofs.GoingOn.{IsAppending}
 use Rattle.record_layer.proofs.finishing.append_rest.Given as goal
 
 abbrev pub invariant-loop-l : goal.invariant-loop-l

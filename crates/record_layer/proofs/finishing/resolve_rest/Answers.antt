@@ -1,7 +1,7 @@
 use Rattle.std.proofs.Common.{arith, refl}
 use Rattle.cluster_core.specs.Roles.{may_resolve, resolve}
-use Rattle.txn.proofs.GoingOn.{resolves_one, resolving_first}
-use Rattle.txn.proofs.Handling.{stood-both}
+use Rattle.commits.proofs.GoingOn.{resolves_one, resolving_first}
+use Rattle.commits.proofs.Handling.{stood-both}
 use Rattle.record_layer.proofs.Settling.{did_pipeline, did_stood}
 use Rattle.record_layer.proofs.finishing.resolve_rest.Goals as goal
 

@@ -1,6 +1,6 @@
 use Rattle.std.proofs.Common.{◌≡◌}
 use Rattle.cluster_core.specs.Cluster.{with_pipeline}
-use Rattle.txn.proofs.GoingOn.{IsResolving}
+use Rattle.commits.proofs.GoingOn.{IsResolving}
 use Rattle.record_layer.proofs.finishing.resolve_rest.Given as goal
 
 abbrev pub invariant-loop-r : goal.invariant-loop-r

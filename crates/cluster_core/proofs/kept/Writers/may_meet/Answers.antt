@@ -11,6 +11,6 @@ returns-in-Some c = λ earlier.
     let some : 0 < length ps = subst (λ xs. 0 < length xs) c.deref.ensures.value found.0 in
     let last : c.in-Some.place.now ≡ get_or ps (length ps - 1) 0 = subst (λ xs. c.in-Some.place.now ≡ get_or xs (length xs - 1) 0) c.deref.ensures.value (found.1 0) in
     let below = leb-false c.args.least c.in-Some.place.now earlier in
-    let rises = subst (λ w. rise_between w.ordered c.requires.0 w.pending ≡ true) (sym c.self.view_is) c.requires.1 in
-    subst (λ w. rise_between w.ordered c.args.least w.pending ≡ true) c.self.view_is
+    let rises = subst (λ w. rise_between w.ranges.ordered c.requires.0 w.ranges.pending ≡ true) (sym c.self.view_is) c.requires.1 in
+    subst (λ w. rise_between w.ranges.ordered c.args.least w.ranges.pending ≡ true) c.self.view_is
     (rise_last c.self.inside.ordered c.requires.0 c.args.least ps rises some (omega (arith, below, last)))

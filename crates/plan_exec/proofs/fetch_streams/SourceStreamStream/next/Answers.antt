@@ -5,7 +5,7 @@ use Rattle.std.proofs.Math.Seq.{take-length}
 use Rattle.plan_exec.specs.Levels.{joined_levels}
 use Rattle.plan_exec.specs.Sources.{entries_left, source_left}
 use Rattle.plan_exec.specs.Streams.{HasGiven, HasNotGiven}
-use Rattle.plan_exec.specs.declared.entry.Entry.{Entry}
+use Rattle.plan_exec.specs.Entry.{Entry}
 use Rattle.plan_exec.specs.declared.level.Level.{Level}
 use Rattle.plan_exec.specs.declared.record_streams.EntryStream.{EntryStream}
 use Rattle.plan_exec.proofs.fetch_streams.SourceStreamStream.next.Goals as goal

@@ -1,7 +1,7 @@
 use Rattle.std.proofs.Common.{◌∙◌, ◌==◌, ap, length, subst, sym}
 use Rattle.txn.proofs.Exits.{exit_with}
 use Rattle.record_store.specs.Call.{IsAnswered, service_of}
-use Rattle.txn.specs.Refusing.{NeverRefuses}
+use Rattle.kv_core.specs.Read.{NeverRefuses}
 use Rattle.record_store.specs.Calls.{schema_writes, field_call, type_footprint}
 use Rattle.record_store.specs.Meaning.{field_meaning}
 use Rattle.record_store.specs.Steps.{of_write}

@@ -5,7 +5,7 @@ use Rattle.metadata.specs.Schema.{Schema, find_index}
 use Rattle.txn.proofs.Exits.{exit_with}
 use Rattle.record_store.specs.Call.{IsAnswered, Opened, service_of}
 use Rattle.record_store.specs.Store.{listed_by, altered_at, state_in}
-use Rattle.txn.specs.Refusing.{NeverRefuses}
+use Rattle.kv_core.specs.Read.{NeverRefuses}
 use Rattle.record_store.specs.Calls.{drop_call, drop_footprint, opened_without}
 use Rattle.record_store.specs.Meaning.{drop_meaning, index_number}
 use Rattle.record_store.specs.Steps.{no_memory, of_metadata, of_write}

@@ -1,5 +1,5 @@
 use Rattle.std.proofs.Common.{◌∙◌, ◌==◌, ap, length, refl}
-use Rattle.txn.specs.Refusing.{NeverRefuses}
+use Rattle.kv_core.specs.Read.{NeverRefuses}
 use Rattle.txn.proofs.Exits.{exit_with}
 use Rattle.record_store.specs.Calls.{mark_call, mark_footprint}
 use Rattle.record_store.specs.Meaning.{index_number, mark_meaning}

@@ -1,75 +1,18 @@
-use Rattle.std.proofs.Common.{◌≡◌, ◌∙◌, List, [], ◌∷◌, Some, Vec, Global, ap, map, subst, sym}
-use Rattle.kv_core.specs.declared.bytes.Bytes.{Bytes}
-use Rattle.kv_core.specs.declared.change.Mutation.TheVariants.{Set}
-use Rattle.metadata.specs.declared.definition.TypeDefinition.{TypeDefinition}
-use Rattle.metadata.specs.Record.{key_cells, key_items, primary_key}
-use Rattle.index_maint.specs.Built.{position_of}
-use Rattle.txn.proofs.Exits.{exit_with}
-use Rattle.record_store.specs.Layout.{record_key, record_value}
-use Rattle.record_store.specs.Reading.{HaveFollowed, HaveNotFollowed}
-use Rattle.record_store.specs.Steps.{of_write}
-use Rattle.record_store.proofs.Saves.{save_answered, save_built_refused, save_follow_refused, save_key_refused, save_limit_refused, save_record_refused}
+use Rattle.std.proofs.Common.{◌≡◌, ◌∙◌, true, subst, sym}
+use Rattle.std.specs.Prelude.{IfErr, IfOk}
+use Rattle.metadata.specs.Schema.{find_type}
+use Rattle.record_store.specs.Call.{IsAnswered, IsRefused}
+use Rattle.record_store.specs.Calls.{save_call}
+use Rattle.record_store.specs.Meaning.{is_own}
 use Rattle.record_store.proofs.store.Store.save.Goals as goal
 
-pub returns-in_err-value-clause-refused : goal.returns-in_err-value-clause-refused
-returns-in_err-value-clause-refused g c =
-    exit_with c.from_residual-in_err-value.result c.in_err-value.field-0.0 _ c.from_residual-in_err-value.ensures
-    (save_key_refused c.args.self.now c.args.new.now (sym c.is_own.ensures ∙ c.if-not-is_own.false) c.in_err-value.ensures.lawful c.in_ok-primary_key.primary_key c.in_ok-position.position.items c.in_ok-primary_key.ensures.key c.in_ok-primary_key.ensures.is_tuple (c.in_ok-position.ensures (key_cells c.args.new.now) (c.in_ok-primary_key.ensures.key ∙ ap (λ (d : TypeDefinition). key_items d.number (key_cells c.args.new.now)) (sym c.definition-definition.ensures.definition))) c.definition-definition.result.now c.definition-definition.ensures.definition c.in_err-value.field-0.0 c.in_err-value.ensures.refused)
-
-pub returns-in_err-found-clause-refused : goal.returns-in_err-found-clause-refused
-returns-in_err-found-clause-refused g c =
-    exit_with c.from_residual-in_err-found.result c.in_err-found.field-0.0 _ c.from_residual-in_err-found.ensures
-    (save_built_refused c.args.self.now c.args.new.now (sym c.is_own.ensures ∙ c.if-not-is_own.false) c.in_ok-value.ensures.lawful c.in_ok-primary_key.primary_key c.as_slice-at.result.now c.in_ok-primary_key.ensures.key c.in_ok-primary_key.ensures.is_tuple at_is c.definition-definition.result.now c.definition-definition.ensures.definition c.in_ok-value.value c.in_err-found.field-0.0 c.in_ok-value.ensures.read c.in_err-found.ensures.refused)
-  where
-    at_is : c.as_slice-at.result.now ≡ position_of c.in_ok-primary_key.primary_key
-    at_is = c.as_slice-at.ensures.value ∙ c.in_ok-position.ensures (key_cells c.args.new.now) (c.in_ok-primary_key.ensures.key ∙ ap (λ (d : TypeDefinition). key_items d.number (key_cells c.args.new.now)) (sym c.definition-definition.ensures.definition))
-
-pub returns-in_err-old-clause-refused : goal.returns-in_err-old-clause-refused
-returns-in_err-old-clause-refused g c =
-    exit_with c.from_residual-in_err-old.result c.in_err-old.field-0.0 _ c.from_residual-in_err-old.ensures
-    (save_record_refused c.args.self.now c.args.new.now (sym c.is_own.ensures ∙ c.if-not-is_own.false) c.in_ok-value.ensures.lawful c.in_ok-primary_key.primary_key c.as_slice-at.result.now c.in_ok-primary_key.ensures.key c.in_ok-primary_key.ensures.is_tuple at_is c.definition-definition.result.now c.definition-definition.ensures.definition (map (λ pairs. pairs.items) c.in_ok-found.found.items) c.in_ok-value.value (g.S.Snapshot.may_refuse c.args.db.now) c.in_ok-value.ensures.read c.in_ok-found.ensures.read c.in_err-old.field-0.0 c.in_err-old.ensures.refused)
-  where
-    at_is : c.as_slice-at.result.now ≡ position_of c.in_ok-primary_key.primary_key
-    at_is = c.as_slice-at.ensures.value ∙ c.in_ok-position.ensures (key_cells c.args.new.now) (c.in_ok-primary_key.ensures.key ∙ ap (λ (d : TypeDefinition). key_items d.number (key_cells c.args.new.now)) (sym c.definition-definition.ensures.definition))
-
-pub returns-in_err-mutations-clause-refused : goal.returns-in_err-mutations-clause-refused
-returns-in_err-mutations-clause-refused g c =
-    exit_with c.from_residual-in_err-mutations.result c.in_err-mutations.field-0.0 _ c.from_residual-in_err-mutations.ensures
-    (save_follow_refused c.args.self.now c.args.new.now (sym c.is_own.ensures ∙ c.if-not-is_own.false) c.in_ok-value.ensures.lawful c.in_ok-primary_key.primary_key c.as_slice-at.result.now c.in_ok-primary_key.ensures.key c.in_ok-primary_key.ensures.is_tuple at_is c.definition-definition.result.now c.definition-definition.ensures.definition (map (λ pairs. pairs.items) c.in_ok-found.found.items) c.in_ok-value.value (g.S.Snapshot.may_refuse c.args.db.now) c.in_ok-value.ensures.read c.in_ok-found.ensures.read c.in_ok-old.old c.in_ok-old.ensures.found c.in_err-mutations.field-0.0
-    (subst (λ (fs : List (Vec (Bytes × Bytes) Global)). HaveNotFollowed c.args.self.now c.args.new.now.definition.number c.as_slice-at.result.now (map (λ pairs. pairs.items) fs) c.in_err-mutations.field-0.0) c.as_slice-found.ensures.value c.in_err-mutations.ensures.refused))
-  where
-    at_is : c.as_slice-at.result.now ≡ position_of c.in_ok-primary_key.primary_key
-    at_is = c.as_slice-at.ensures.value ∙ c.in_ok-position.ensures (key_cells c.args.new.now) (c.in_ok-primary_key.ensures.key ∙ ap (λ (d : TypeDefinition). key_items d.number (key_cells c.args.new.now)) (sym c.definition-definition.ensures.definition))
-
-pub returns-in_err-write_all-clause-refused : goal.returns-in_err-write_all-clause-refused
-returns-in_err-write_all-clause-refused g c =
-    exit_with c.from_residual-in_err-write_all.result (of_write c.in_err-write_all.field-0.0) _ c.from_residual-in_err-write_all.ensures
-    (save_limit_refused c.args.self.now c.args.new.now (sym c.is_own.ensures ∙ c.if-not-is_own.false) c.in_ok-value.ensures.lawful c.in_ok-primary_key.primary_key c.as_slice-at.result.now c.in_ok-primary_key.ensures.key c.in_ok-primary_key.ensures.is_tuple at_is c.definition-definition.result.now c.definition-definition.ensures.definition (map (λ pairs. pairs.items) c.in_ok-found.found.items) c.in_ok-value.value (g.S.Snapshot.may_refuse c.args.db.now) c.in_ok-value.ensures.read c.in_ok-found.ensures.read c.in_ok-old.old c.in_ok-old.ensures.found c.in_ok-mutations.mutations.items followed
-    c.in_err-write_all.field-0.0 c.in_err-write_all.ensures.kept c.in_err-write_all.ensures.refused)
-  where
-    at_is : c.as_slice-at.result.now ≡ position_of c.in_ok-primary_key.primary_key
-    at_is = c.as_slice-at.ensures.value ∙ c.in_ok-position.ensures (key_cells c.args.new.now) (c.in_ok-primary_key.ensures.key ∙ ap (λ (d : TypeDefinition). key_items d.number (key_cells c.args.new.now)) (sym c.definition-definition.ensures.definition))
-
-    followed : HaveFollowed c.args.self.now c.args.new.now.definition.number c.as_slice-at.result.now c.in_ok-old.old (Some c.args.new.now) (map (λ pairs. pairs.items) c.in_ok-found.found.items) c.args.self.now.schema.indexes
-        (Set (record_key c.args.self.now.prefix (primary_key c.args.new.now)) (record_value c.args.new.now.cells) ∷ []) c.in_ok-mutations.mutations.items
-    followed =
-        subst (λ (fs : List (Vec (Bytes × Bytes) Global)). HaveFollowed c.args.self.now c.args.new.now.definition.number c.as_slice-at.result.now c.in_ok-old.old (Some c.args.new.now) (map (λ pairs. pairs.items) fs) c.args.self.now.schema.indexes
-        (Set (record_key c.args.self.now.prefix (primary_key c.args.new.now)) (record_value c.args.new.now.cells) ∷ []) c.in_ok-mutations.mutations.items) c.as_slice-found.ensures.value
-        (subst (λ o. HaveFollowed c.args.self.now c.args.new.now.definition.number c.as_slice-at.result.now o (Some c.args.new.now) (map (λ pairs. pairs.items) c.as_slice-found.result.now) c.args.self.now.schema.indexes
-        (Set (record_key c.args.self.now.prefix (primary_key c.args.new.now)) (record_value c.args.new.now.cells) ∷ []) c.in_ok-mutations.mutations.items) c.as_ref.ensures.value c.in_ok-mutations.ensures.mutations)
+pub put-requires : goal.put-requires
+put-requires g c = subst (λ r. is_own (find_type c.args.self.now.schema r.definition.name) r ≡ true) (sym c.lend-new.ensures) (sym c.is_own.ensures ∙ c.if-not-is_own.false)
 
 pub returns-clause-saved : goal.returns-clause-saved
 returns-clause-saved g c =
-    save_answered c.args.self.now c.args.new.now (sym c.is_own.ensures ∙ c.if-not-is_own.false) c.in_ok-value.ensures.lawful c.in_ok-primary_key.primary_key c.as_slice-at.result.now c.in_ok-primary_key.ensures.key c.in_ok-primary_key.ensures.is_tuple at_is c.definition-definition.result.now c.definition-definition.ensures.definition (map (λ pairs. pairs.items) c.in_ok-found.found.items) c.in_ok-value.value (g.S.Snapshot.may_refuse c.args.db.now) c.in_ok-value.ensures.read c.in_ok-found.ensures.read c.in_ok-old.old c.in_ok-old.ensures.found c.in_ok-mutations.mutations.items followed
-    c.definition-definition.ensures.made c.in_ok-mutations.ensures.cells c.in_ok-write_all.ensures.ok c.in_ok-write_all.ensures.allowed
-  where
-    at_is : c.as_slice-at.result.now ≡ position_of c.in_ok-primary_key.primary_key
-    at_is = c.as_slice-at.ensures.value ∙ c.in_ok-position.ensures (key_cells c.args.new.now) (c.in_ok-primary_key.ensures.key ∙ ap (λ (d : TypeDefinition). key_items d.number (key_cells c.args.new.now)) (sym c.definition-definition.ensures.definition))
+    subst (λ r. IfOk c.put.result (λ old. IsAnswered (g.S.Snapshot.map_at c.args.db.now) c.args.self.now (save_call c.args.self.now r) old c.args.tx.now c.put.new.tx)) c.lend-new.ensures c.put.ensures.saved
 
-    followed : HaveFollowed c.args.self.now c.args.new.now.definition.number c.as_slice-at.result.now c.in_ok-old.old (Some c.args.new.now) (map (λ pairs. pairs.items) c.in_ok-found.found.items) c.args.self.now.schema.indexes
-        (Set (record_key c.args.self.now.prefix (primary_key c.args.new.now)) (record_value c.args.new.now.cells) ∷ []) c.in_ok-mutations.mutations.items
-    followed =
-        subst (λ (fs : List (Vec (Bytes × Bytes) Global)). HaveFollowed c.args.self.now c.args.new.now.definition.number c.as_slice-at.result.now c.in_ok-old.old (Some c.args.new.now) (map (λ pairs. pairs.items) fs) c.args.self.now.schema.indexes
-        (Set (record_key c.args.self.now.prefix (primary_key c.args.new.now)) (record_value c.args.new.now.cells) ∷ []) c.in_ok-mutations.mutations.items) c.as_slice-found.ensures.value
-        (subst (λ o. HaveFollowed c.args.self.now c.args.new.now.definition.number c.as_slice-at.result.now o (Some c.args.new.now) (map (λ pairs. pairs.items) c.as_slice-found.result.now) c.args.self.now.schema.indexes
-        (Set (record_key c.args.self.now.prefix (primary_key c.args.new.now)) (record_value c.args.new.now.cells) ∷ []) c.in_ok-mutations.mutations.items) c.as_ref.ensures.value c.in_ok-mutations.ensures.mutations)
+pub returns-clause-refused : goal.returns-clause-refused
+returns-clause-refused g c =
+    subst (λ r. IfErr c.put.result (λ error. IsRefused (g.S.Snapshot.map_at c.args.db.now) (g.S.Snapshot.may_refuse c.args.db.now) c.args.self.now (save_call c.args.self.now r) error c.args.tx.now c.put.new.tx)) c.lend-new.ensures c.put.ensures.refused

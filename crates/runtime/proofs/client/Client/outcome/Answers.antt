@@ -29,4 +29,4 @@ invariant_of-self-then-begins g c =
     let name : seen.name ≡ me.name = found.0.0 ∙ sym known.1.0 in
     let reader : Remembers seen (knowledge c.look_up-reader.result.0.place) = subst (Remembers seen) (sym found.1) (refl, later_self seen) in
     let place : c.self.inside.number < seen.name.config.places = subst (λ (n : Name). c.self.inside.number < n.config.places) (sym name) c.self.invariant.7 in
-    (c.self.invariant.0, c.self.invariant.1, c.self.invariant.2 ∙ sym name, reader, begun_later me seen c.self.inside.begun name c.if-begins.ensures c.self.invariant.4, c.self.invariant.5, c.self.invariant.6, place)
+    (c.self.invariant.0, c.self.invariant.1, c.self.invariant.2 ∙ sym name, reader, begun_later me seen c.self.inside.begun name c.if-begins.ensures c.self.invariant.4, c.self.invariant.5, c.self.invariant.6, place, c.self.invariant.8)

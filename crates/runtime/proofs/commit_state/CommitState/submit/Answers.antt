@@ -4,8 +4,8 @@ use mathlib.Core.List.{IsPrefix}
 use Rattle.cluster_core.specs.Cluster.{without_servers}
 use Rattle.cluster_core.specs.Roles.{told, whole}
 use Rattle.kv_core.specs.declared.change.CommitRequest.{CommitRequest}
-use Rattle.txn.specs.Holds.{HeldError}
-use Rattle.txn.specs.declared.commit.HoldError.{HoldError}
+use Rattle.commits.specs.Holds.{HeldError}
+use Rattle.commits.specs.declared.commit.HoldError.{HoldError}
 use Rattle.runtime.specs.declared.log_entry.Entry.{Entry}
 use Rattle.runtime.specs.declared.in_flight.Due.{Due}
 use Rattle.runtime.specs.History.{Name, Prefix, submitted_entry}

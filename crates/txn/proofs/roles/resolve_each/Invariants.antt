@@ -1,6 +1,0 @@
-use Rattle.std.proofs.Common.{◌≡◌}
-use Rattle.txn.specs.Holds.{with_handled}
-use Rattle.txn.proofs.roles.resolve_each.Given as goal
-
-abbrev pub invariant-loop-r : goal.invariant-loop-r
-invariant-loop-r g l = g.R.Roles.state l.roles ≡ with_handled l.r 0 (g.R.Roles.state l.initial.roles)
