@@ -14,6 +14,7 @@ from agreement import agreement_faults
 from cases import cases_in, example_cases
 from drawings import drawing_faults
 from edges import MANY_STEPS, MEMORY_LIMITS, SETTLE, byte_cases, command_line_cases, echo_cases, long_cases, long_line
+from folders import folder_faults
 from manuals import manual_faults
 from shells import shell_cases
 from terminals import terminal_faults
@@ -107,11 +108,14 @@ def faults(program, folder):
     yield from agreement_faults(program, cases)
     yield from drawing_faults(program, cases)
     yield from terminal_faults(program, folder)
+    yield from folder_faults(program, folder, cases)
     yield from manual_faults(program)
     race = next(case for case in cases if "race" in case.words[:1] and case.status == 0)
+    kept = os.path.join(folder, "talk")
     for words, given in ([["run"], SETTLE.encode()], [["pack", "[1]"], b""], [["unpack", "14"], b""],
-                         [["race"], race.given], [["shell"], b"settle\n"]):
-        yield f"output that can't be written: {words[0]}", closed_output_fault(program, words, given)
+                         [["race"], race.given], [["shell"], b"settle\n"], [["log", kept], b""],
+                         [["shell", "--data", kept], b"settle\n"], [["run", "--data", kept], SETTLE.encode()]):
+        yield f"output that can't be written: {words[0]} {len(words)}", closed_output_fault(program, words, given)
     yield "an archive tells its commit", archive_fault()
     yield "want of memory for a script", memory_fault(program, *MANY_STEPS, False)
     yield "want of memory for a line", memory_fault(program, *long_line(), True)

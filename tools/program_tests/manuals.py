@@ -14,7 +14,7 @@ COMPLETED = [
     (["recordctl", "ex"], "explain"),
     (["recordctl", "s"], "simulate shell"),
     (["recordctl", "explain", "--s"], "--svg"),
-    (["recordctl", "run", "--"], "--echo --names --svg --help"),
+    (["recordctl", "run", "--"], "--echo --names --svg --data --help"),
     (["recordctl", "unpack", "--t"], ""),
     (["recordctl", "run", "exampl"], "examples"),
 ]

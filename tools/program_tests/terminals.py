@@ -13,6 +13,7 @@ import time
 SECONDS = 20
 PROMPT = "> "
 GREETING = "The database is empty, and ends with the shell. help tells what can be typed.\n"
+KEPT_GREETING = "What is committed stays in the folder. help tells what can be typed.\n"
 EXAMPLES, TALKS = "examples", ".talk"
 # what is typed, and what is told before the next prompt
 TALK = [
@@ -81,11 +82,11 @@ def talk_of(path):
     return [(typed, f"{told}\n" if told else "") for typed, _, told in lines]
 
 
-def talk_fault(program, talk):
+def talk_fault(program, talk, words=(), greeting=GREETING):
     """What is wrong with a talk, or None."""
-    terminal = Terminal([program, "shell"])
+    terminal = Terminal([program, "shell", *words])
     faults = []
-    if (told := terminal.told()) != GREETING + PROMPT:
+    if (told := terminal.told()) != greeting + PROMPT:
         faults.append(f"at first {told!r} is told")
     for line, wanted in talk:
         terminal.say(line)
@@ -181,6 +182,8 @@ def watched_faults(program, folder):
 def terminal_faults(program, folder):
     """What is told on a terminal, and what is wrong with it, or None."""
     yield "the shell over a terminal", talk_fault(program, TALK)
+    kept = ["--data", os.path.join(folder, "talk")]
+    yield "the shell over a terminal and a folder", talk_fault(program, TALK, kept, KEPT_GREETING)
     for name in sorted(filter(lambda it: it.endswith(TALKS), os.listdir(EXAMPLES))):
         yield name, talk_fault(program, talk_of(os.path.join(EXAMPLES, name)))
     for words, wanted in ((["explain"], "Scan t: all [..ff]\n"), (["explain", "--line"], "Scan(t,..ff)\n")):

@@ -3,8 +3,9 @@
 
 Each line of test_memory and of test_commits but the last tells of something for which memory must run out at some
 of them: it is done again then, 'again ' stands before the line, and all else is as it is when none fails. Where an
-allocation fails elsewhere the program may stop. A program 'recordctl' runs the scripts of cases/memory.steps, and must
-print what it prints when none fails, or the first lines of that, or none, and 'out of memory'. A program 'test_replies'
+allocation fails elsewhere the program may stop. A program 'recordctl' runs the scripts of cases/memory.steps, and has
+a session of its shell, in memory and over a new folder, and prints the log of one: it must print what it prints when
+none fails, or the first lines of that, or none, and 'out of memory'. A program 'test_replies'
 is run with one allocation in so many failing, and must print what it prints when none fails; in one run at least it
 must tell that replies were lost. The last line is 'N passed, M failed', where each allocation counts, and each run of
 'test_replies'; where there is no C compiler ('cc') one failure is counted.
@@ -14,11 +15,12 @@ import subprocess
 import sys
 import tempfile
 from concurrent.futures import ThreadPoolExecutor
-from dataclasses import dataclass
+from dataclasses import dataclass, replace
 
 HERE = os.path.dirname(os.path.realpath(__file__))
 sys.path.insert(0, os.path.join(os.path.dirname(HERE), "program_tests"))
 from cases import script_cases  # noqa: E402  (found by the line above)
+from crashes import FIRST, SECOND, THIRD  # noqa: E402
 
 AGAIN = "again "
 OUT_OF_MEMORY = "out of memory\n"
@@ -39,6 +41,7 @@ class Trial:
     given: str = ""
     wanted: str | None = None
     shows: str = ""
+    is_kept: bool = False
 
     def __str__(self):
         return f"{self.program}: {self.shows}" if self.shows else self.program
@@ -71,7 +74,8 @@ def run(trial, library, number, period=0):
         file.write(bytes(COUNT_BYTES))
         file.flush()
         words = {**os.environ, "LD_PRELOAD": library, "FAILS": str(number), "EVERY": str(period), "COUNT": file.name}
-        done = subprocess.run([trial.program, *trial.words], input=trial.given, capture_output=True, env=words,
+        folder = ["--data", f"{file.name}.kept"] if trial.is_kept else []
+        done = subprocess.run([trial.program, *trial.words, *folder], input=trial.given, capture_output=True, env=words,
                               text=True, timeout=SECONDS)
         file.seek(0)
         count = int.from_bytes(file.read(COUNT_BYTES), sys.byteorder)
@@ -145,14 +149,19 @@ def lost(trial, library):
     return len(runs) - len(wrong), len(wrong) + (told == 0)
 
 
-def trials_of(program):
+def trials_of(program, folder):
     """What a program is given, one after another."""
     program = os.path.abspath(program)
     if not os.path.basename(program).startswith("recordctl"):
         return [Trial(program)]
     with open(os.path.join("cases", SCRIPTS), encoding="utf-8") as file:
         cases = script_cases(SCRIPTS, file.read(), ["run"])
-    return [Trial(program, tuple(it.words), it.given.decode(), it.output.decode(), it.shows) for it in cases]
+    typed, kept = (FIRST + SECOND + THIRD).decode(), os.path.join(folder, "kept")
+    subprocess.run([program, "shell", "--data", kept], input=typed, capture_output=True, text=True, timeout=SECONDS)
+    trials = [Trial(program, tuple(it.words), it.given.decode(), it.output.decode(), it.shows) for it in cases]
+    trials.append(Trial(program, ("shell",), typed, shows="a session of the shell"))
+    over = [replace(it, shows=f"{it.shows}, over a folder", is_kept=True) for it in trials]
+    return [*trials, *over, Trial(program, ("log", kept), shows="the log of a database")]
 
 
 def judge_of(trial):
@@ -167,7 +176,8 @@ def main():
             print("no C compiler: the allocator that fails isn't built")
             counts = [(0, 1)]
         else:
-            counts = [judge_of(trial)(trial, library) for it in sys.argv[1:] for trial in trials_of(it)] or [(0, 1)]
+            trials = [trial for it in sys.argv[1:] for trial in trials_of(it, folder)]
+            counts = [judge_of(it)(it, library) for it in trials] or [(0, 1)]
     passed, failed = (sum(them) for them in zip(*counts))
     print(f"{passed} passed, {failed} failed")
     return 1 if failed else 0

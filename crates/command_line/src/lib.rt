@@ -1,6 +1,7 @@
 //! The command line of `recordctl`: what its words ask for.
 #![tactic(auto)]
 
+mod commands;
 mod request;
 mod version;
 

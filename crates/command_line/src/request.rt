@@ -1,7 +1,7 @@
-// The parser of the command line, by `clap`. Called by `recordctl`.
-use clap::builder::ValueParser;
+// What the words of the command line ask for, by `clap`. Called by `recordctl`.
+use crate::commands::command_line;
 use clap::error::ErrorKind;
-use clap::{Arg, ArgAction, ArgMatches, Command, Error};
+use clap::{ArgMatches, Error};
 use std::alloc::{AllocError, Global};
 
 /// What is printed of a run: a line for each reply, or else a drawing.
@@ -53,8 +53,9 @@ pub struct ShellWords {
 /// What a command line asks for.
 #[derive(Debug, Drop)]
 pub enum Request {
-    /// To run the script in this file, or without one that on standard input, and what is printed.
-    Run(RunWords, Option<String>),
+    /// To run the script in this file, or without one that on standard input, and what is printed:
+    /// over the database in this folder, or without one over one in memory.
+    Run(RunWords, Option<String>, Option<String>),
     /// To tell what is wrong with the texts in these files, or without any with that on standard
     /// input.
     Check(Vec<String>),
@@ -71,8 +72,11 @@ pub enum Request {
     Version,
     /// To print this random script, or to run it.
     Simulate(SimulationWords),
-    /// To do the steps that are typed.
-    Shell(ShellWords),
+    /// To do the steps that are typed, over the database in this folder, or without one over one in
+    /// memory.
+    Shell(ShellWords, Option<String>),
+    /// To print the log of the database in this folder.
+    Log(String),
 }
 
 /// Why a command line asks for nothing.
@@ -88,169 +92,6 @@ impl From<AllocError> for CommandLineError {
     fn from(_error: AllocError) -> CommandLineError {
         CommandLineError::OutOfMemory
     }
-}
-
-fn run_command<'a>(alloc: Global) -> Result<Command<'a>, AllocError> {
-    let echo = Arg::new(alloc, "echo")
-        .long("echo")
-        .help("Prints each step before its reply")
-        .action(ArgAction::SetTrue);
-    let names = Arg::new(alloc, "names")
-        .long("names")
-        .help("Prints records and entries of indexes in the place of keys")
-        .action(ArgAction::SetTrue);
-    let svg = Arg::new(alloc, "svg")
-        .long("svg")
-        .help("Draws the steps in lanes of clients and roles, as SVG")
-        .action(ArgAction::SetTrue)
-        .conflicts_with("echo")?
-        .conflicts_with("names")?;
-    let file = Arg::new(alloc, "FILE").help("The script; without it standard input is read");
-    Command::new(alloc, "run")
-        .about("Runs the steps of a script and prints what each replies")
-        .arg(echo)?
-        .arg(names)?
-        .arg(svg)?
-        .arg(file)
-}
-
-fn check_command<'a>(alloc: Global) -> Result<Command<'a>, AllocError> {
-    let files = Arg::new(alloc, "FILE")
-        .help("Scripts, races, or schemas with a query; without any standard input is read")
-        .num_args(0..);
-    Command::new(alloc, "check")
-        .about("Tells each place where a script, a race or a query is wrong")
-        .arg(files)
-}
-
-fn explain_command<'a>(alloc: Global) -> Result<Command<'a>, AllocError> {
-    let line = Arg::new(alloc, "line")
-        .long("line")
-        .help("Prints it on one line, as where the output is no terminal")
-        .action(ArgAction::SetTrue);
-    let tree = Arg::new(alloc, "tree")
-        .long("tree")
-        .help("Prints it as a tree, a step a line, as on a terminal")
-        .action(ArgAction::SetTrue)
-        .conflicts_with("line")?;
-    let svg = Arg::new(alloc, "svg")
-        .long("svg")
-        .help("Draws it as a tree, as SVG")
-        .action(ArgAction::SetTrue)
-        .conflicts_with("line")?
-        .conflicts_with("tree")?;
-    let file = Arg::new(alloc, "FILE").help(
-        "Schema, states and query; without it standard input is read",
-    );
-    Command::new(alloc, "explain")
-        .about("Prints the plan of a query")
-        .arg(line)?
-        .arg(tree)?
-        .arg(svg)?
-        .arg(file)
-}
-
-fn pack_command<'a>(alloc: Global) -> Result<Command<'a>, AllocError> {
-    let json = Arg::new(alloc, "JSON")
-        .help("The tuple, as a list")
-        .required(true);
-    Command::new(alloc, "pack")
-        .about("Prints the pack of a tuple in hexadecimal digits")
-        .arg(json)
-}
-
-fn unpack_command<'a>(alloc: Global) -> Result<Command<'a>, AllocError> {
-    let hex = Arg::new(alloc, "HEX")
-        .help("The bytes, in hexadecimal digits")
-        .required(true);
-    Command::new(alloc, "unpack")
-        .about("Prints the tuple that bytes spell")
-        .arg(hex)
-}
-
-fn race_command<'a>(alloc: Global) -> Result<Command<'a>, AllocError> {
-    let file = Arg::new(alloc, "FILE").help("The race; without it standard input is read");
-    Command::new(alloc, "race")
-        .about(
-            "Runs two clients beside the builder of an index, and prints what there is at the end",
-        )
-        .arg(file)
-}
-
-// An option of `simulate` that is a number in these bounds.
-fn number_arg<'a>(
-    alloc: Global,
-    name: &'a str,
-    help: &'a str,
-    given: &'a str,
-    bounds: (u64, u64),
-) -> Arg<'a> {
-    Arg::new(alloc, name)
-        .long(name)
-        .help(help)
-        .default_value(given)
-        .value_parser(ValueParser::unsigned(bounds.0, bounds.1))
-}
-
-fn simulate_command<'a>(alloc: Global) -> Result<Command<'a>, AllocError> {
-    let seed = number_arg(alloc, "seed", "What it is made from", "0", (0, u64::MAX));
-    let clients = number_arg(alloc, "clients", "How many clients there are", "3", (1, 16));
-    let steps = number_arg(
-        alloc,
-        "steps",
-        "How many steps there are",
-        "40",
-        (0, 20_000),
-    );
-    let run = Arg::new(alloc, "run")
-        .long("run")
-        .help("Runs it, and prints each step and its reply")
-        .action(ArgAction::SetTrue);
-    let svg = Arg::new(alloc, "svg")
-        .long("svg")
-        .help("Runs it, and draws its steps in lanes of clients and roles, as SVG")
-        .action(ArgAction::SetTrue)
-        .conflicts_with("run")?;
-    Command::new(alloc, "simulate")
-        .about("Prints a random script, always the same of one seed")
-        .arg(seed)?
-        .arg(clients)?
-        .arg(steps)?
-        .arg(run)?
-        .arg(svg)
-}
-
-fn shell_command<'a>(alloc: Global) -> Result<Command<'a>, AllocError> {
-    let echo = Arg::new(alloc, "echo")
-        .long("echo")
-        .help("Prints each step, as a script has it, before its reply")
-        .action(ArgAction::SetTrue);
-    let json = Arg::new(alloc, "json")
-        .long("json")
-        .help("Prints rows as JSON, a row a line")
-        .action(ArgAction::SetTrue);
-    Command::new(alloc, "shell")
-        .about("Does the steps that are typed, each as it comes; help tells what can be typed")
-        .arg(echo)?
-        .arg(json)
-}
-
-// What the command line may be.
-fn command_line<'a>(alloc: Global) -> Result<Command<'a>, AllocError> {
-    Command::new(alloc, "recordctl")
-        .about(
-            "Runs and checks scripts and races over a record store, shows plans of queries, and packs and unpacks tuples",
-        )
-        .version("")
-        .subcommand_required(true)
-        .subcommand(run_command(alloc)?)?
-        .subcommand(check_command(alloc)?)?
-        .subcommand(explain_command(alloc)?)?
-        .subcommand(pack_command(alloc)?)?
-        .subcommand(unpack_command(alloc)?)?
-        .subcommand(race_command(alloc)?)?
-        .subcommand(simulate_command(alloc)?)?
-        .subcommand(shell_command(alloc)?)
 }
 
 // What the words of the command line match.
@@ -269,10 +110,10 @@ fn not_taken(alloc: Global, error: &Error) -> CommandLineError {
     }
 }
 
-// The file that the words of a subcommand name, if they name one.
-fn file_in(alloc: Global, matches: &ArgMatches) -> Result<Option<String>, AllocError> {
-    match matches.get_str("FILE") {
-        Some(path) => Ok(Some(String::from_str(alloc, path)?)),
+// The word of this name among those of a subcommand, if it is there.
+fn word_in(alloc: Global, matches: &ArgMatches, name: &str) -> Result<Option<String>, AllocError> {
+    match matches.get_str(name) {
+        Some(word) => Ok(Some(String::from_str(alloc, word)?)),
         None => Ok(None),
     }
 }
@@ -308,6 +149,14 @@ fn run_words_in(matches: &ArgMatches) -> RunWords {
     }
 }
 
+// How the words of `shell` ask its steps to be told.
+fn shell_words_in(matches: &ArgMatches) -> ShellWords {
+    ShellWords {
+        is_echo: matches.get_flag("echo"),
+        is_json: matches.get_flag("json"),
+    }
+}
+
 // What is printed where the words say nothing of it.
 const REPLIES: RunWords = RunWords {
     is_echo: false,
@@ -326,11 +175,15 @@ fn simulation_in(matches: &ArgMatches) -> SimulationWords {
     }
 }
 
-// What the words ask for where they match `pack` or `unpack`.
-fn tuple_request_in(alloc: Global, matches: &ArgMatches) -> Result<Option<Request>, AllocError> {
+// What the words ask for where they match `pack`, `unpack` or `log`.
+fn word_request_in(alloc: Global, matches: &ArgMatches) -> Result<Option<Request>, AllocError> {
     let pack_words = matches.subcommand_matches("pack");
     if let Some(word) = pack_words.and_then(|words| words.get_str("JSON")) {
         return Ok(Some(Request::Pack(String::from_str(alloc, word)?)));
+    }
+    let log_words = matches.subcommand_matches("log");
+    if let Some(word) = log_words.and_then(|words| words.get_str("DIR")) {
+        return Ok(Some(Request::Log(String::from_str(alloc, word)?)));
     }
     let unpack_words = matches.subcommand_matches("unpack");
     match unpack_words.and_then(|words| words.get_str("HEX")) {
@@ -341,11 +194,11 @@ fn tuple_request_in(alloc: Global, matches: &ArgMatches) -> Result<Option<Reques
 
 // What the words that match ask for.
 fn request_in(alloc: Global, matches: &ArgMatches) -> Result<Request, AllocError> {
-    if let Some(request) = tuple_request_in(alloc, matches)? {
+    if let Some(request) = word_request_in(alloc, matches)? {
         return Ok(request);
     }
     if let Some(words) = matches.subcommand_matches("explain") {
-        return Ok(Request::Explain(form_in(words), file_in(alloc, words)?));
+        return Ok(Request::Explain(form_in(words), word_in(alloc, words, "FILE")?));
     }
     if let Some(words) = matches.subcommand_matches("check") {
         return Ok(Request::Check(files_in(alloc, words)?));
@@ -354,17 +207,18 @@ fn request_in(alloc: Global, matches: &ArgMatches) -> Result<Request, AllocError
         return Ok(Request::Simulate(simulation_in(words)));
     }
     if let Some(words) = matches.subcommand_matches("shell") {
-        return Ok(Request::Shell(ShellWords {
-            is_echo: words.get_flag("echo"),
-            is_json: words.get_flag("json"),
-        }));
+        return Ok(Request::Shell(shell_words_in(words), word_in(alloc, words, "data")?));
     }
     if let Some(words) = matches.subcommand_matches("race") {
-        return Ok(Request::Race(file_in(alloc, words)?));
+        return Ok(Request::Race(word_in(alloc, words, "FILE")?));
     }
     match matches.subcommand_matches("run") {
-        Some(words) => Ok(Request::Run(run_words_in(words), file_in(alloc, words)?)),
-        None => Ok(Request::Run(REPLIES, None)),
+        Some(words) => Ok(Request::Run(
+            run_words_in(words),
+            word_in(alloc, words, "FILE")?,
+            word_in(alloc, words, "data")?,
+        )),
+        None => Ok(Request::Run(REPLIES, None, None)),
     }
 }
 

@@ -4,10 +4,12 @@ use Rattle.std.proofs.Common.{◌≡◌, subst, ◌⊎◌, inl, inr, ℕ, ◌≤
 use Rattle.std.proofs.lemmas.Bool.Decides.{nat_tests}
 use Rattle.std.proofs.lemmas.List.{length-take, take_all}
 use Rattle.cluster_core.specs.declared.answers.Config.{Config}
-use Rattle.schedule.specs.Stepwise.{StepwiseState}
+use Rattle.schedule.specs.Stepwise.{HasDone, StepwiseState}
 use Rattle.schedule.specs.declared.step.Step.{Step}
-use Rattle.shell.specs.Further.{HasDoneNext}
+use Rattle.logged_schedule.specs.Opening.{from_version}
+use Rattle.shell.specs.Further.{HasDoneNext, IsOfStepsOver}
 use Rattle.recordctl.specs.declared.run.Begun.{Begun}
+use Rattle.recordctl.specs.declared.run.Stopped.{Stopped}
 use Rattle.recordctl.specs.declared.fault.Fault.{Fault}
 use Rattle.recordctl.specs.declared.fault.Fault.TheVariants.{OutOfMemory, CannotRead, BadScript, BadConfig, BadArgument, Refused, RefusedSchema, RefusedQuery, SortNotServed, GaveUp, RefusedCommand, Corrupt}
 use Rattle.json_forms.specs.Json.{value_in}
@@ -17,9 +19,9 @@ use Rattle.explain.specs.Planning.{IsPlanAskedBy}
 use Rattle.command_line.specs.declared.request.PlanForm.{PlanForm}
 use Rattle.recordctl.specs.PlanLines.{IsShownPlan, explains_plan}
 use Rattle.recordctl.specs.Racing.{IsRaced, explains_raced}
-use Rattle.recordctl.specs.Run.{IsBegunOf, IsRunOf, explains_run}
+use Rattle.recordctl.specs.Run.{IsBegunOf, IsRunOf, IsRunOver, explains_run}
 use Rattle.serde_json.specs.Data.{Data}
-use Rattle.script_check.specs.Good.{IsGood, file_form_in, is_good_as}
+use Rattle.script_check.specs.Good.{IsGood, IsRunnable, file_form_in, is_good_as}
 use Rattle.script_check.specs.declared.file_form.FileForm.{FileForm}
 use Rattle.script_check.specs.declared.file_form.FileForm.TheVariants as forms
 
@@ -64,20 +66,38 @@ explained_moved a b e Corrupt h = h
 pub begun_of_front : (known : Option (List ℕ)) (bytes : List ℕ) (begun : Begun) → IfSome known (λ text. bytes ≡ take 4000001 text) → IsBegunOf bytes begun → IfSome known (λ text. IsBegunOf text begun)
 begun_of_front None bytes begun h is = tt
 begun_of_front (Some text) bytes begun h is =
-    record { config = is.config; script = script_moved bytes text (ap value_in h ∙ value_of_front text) is.config begun.steps.items is.script; done = is.done; allowed = is.allowed }
+    record { script = script_moved bytes text (ap value_in h ∙ value_of_front text) begun.config begun.steps.items is.script; done = is.done; allowed = is.allowed }
 
--- what a script that is begun has run, once its steps are done
-run_of_begun : (known : Option (List ℕ)) (begun : Begun) (after : StepwiseState) → IfSome known (λ text. IsBegunOf text begun) → HasDoneNext begun.steps.items begun.schedule after → IfSome known (λ text. IsRunOf text after)
-run_of_begun None begun after is next = tt
-run_of_begun (Some text) begun after is next =
-    let done = next is.config [] [] is.done in
-    record { config = is.config; steps = begun.steps.items; replies = done.0; script = is.script; done = done.1; allowed = is.allowed }
+-- what a script that is begun has run, once its steps are done over an empty database
+pub run_of_begun : (known : Option (List ℕ)) (begun : Begun) (N : Type 0) (before : StepwiseState) (result : Result StepwiseState Stopped) → IfSome known (λ text. IsBegunOf text begun) → (N → before ≡ begun.database) → IfOk result (HasDoneNext begun.steps.items before)
+    → IfOk result (λ after. N → IfSome known (λ text. IsRunOf text after))
+run_of_begun None begun N before (Ok after) is same next = λ _. tt
+run_of_begun None begun N before (Err why) is same next = tt
+run_of_begun (Some text) begun N before (Err why) is same next = tt
+run_of_begun (Some text) begun N before (Ok after) is same next =
+    λ none.
+    let (more, done) = next begun.config [] [] (subst (HasDone begun.config [] []) (sym (same none)) is.done) in
+    record { config = begun.config; steps = begun.steps.items; replies = more; script = is.script; done = done; allowed = is.allowed }
 
--- the same of what is answered of them
-pub ran_of_begun : {E : Type 0} (known : Option (List ℕ)) (begun : Begun) (r : Result StepwiseState E) → IfSome known (λ text. IsBegunOf text begun) → IfOk r (HasDoneNext begun.steps.items begun.schedule)
-    → IfOk r (λ after. IfSome known (λ text. IsRunOf text after))
-ran_of_begun known begun (Err why) is next = tt
-ran_of_begun known begun (Ok after) is next = run_of_begun known begun after is next
+-- so it is over a database of some steps
+pub run_over_begun : (known : Option (List ℕ)) (begun : Begun) (before : StepwiseState) (result : Result StepwiseState Stopped) → IfSome known (λ text. IsBegunOf text begun) → (HasDone begun.config [] [] begun.database → (start : ℕ) × IsOfStepsOver begun.config start before)
+    → IfOk result (HasDoneNext begun.steps.items before) → IfOk result (λ after. IfSome known (λ text. IsRunOver text after))
+run_over_begun None begun before (Ok after) is some next = tt
+run_over_begun None begun before (Err why) is some next = tt
+run_over_begun (Some text) begun before (Err why) is some next = tt
+run_over_begun (Some text) begun before (Ok after) is some next =
+    let (start, (steps, replies, done)) = some is.done in
+    let (more, longer) = next (from_version start begun.config) steps replies done in
+    record { config = begun.config; start = start; before = steps; steps = begun.steps.items; replies = replies ++ more; script = is.script; done = longer; allowed = is.allowed }
+
+-- a script that is begun can be run
+pub runnable_begun : (known : Option (List ℕ)) (begun : Begun) → IfSome known (λ text. IsBegunOf text begun) → IfSome known IsRunnable
+runnable_begun None begun is = tt
+runnable_begun (Some text) begun is = record { config = begun.config; steps = begun.steps.items; script = is.script; allowed = is.allowed }
+
+-- an empty database is one of no steps
+pub steps_none : (config : Config) (state : StepwiseState) → HasDone config [] [] state → (start : ℕ) × IsOfStepsOver config start state
+steps_none config state done = (config.start, ([], [], done))
 
 pub explained_of_front : (known : Option (List ℕ)) (bytes : List ℕ) (fault : Fault) → IfSome known (λ text. bytes ≡ take 4000001 text) → explains_run bytes fault → IfSome known (λ text. explains_run text fault)
 explained_of_front None bytes fault h is = tt

@@ -1,5 +1,5 @@
 -- What a run of a script is.
-use Rattle.std.specs.Prelude.{◌≡◌, ℕ, List, [], Some, IsNone}
+use Rattle.std.specs.Prelude.{◌≡◌, ℕ, List, [], ◌++◌, Some, IsNone}
 use Rattle.cluster_core.specs.Configuration.{config_refusal}
 use Rattle.cluster_core.specs.declared.answers.Config.{Config}
 use Rattle.schedule.specs.Stepwise.{HasDone, StepwiseState}
@@ -7,7 +7,12 @@ use Rattle.schedule.specs.declared.reply.Reply.{Reply}
 use Rattle.schedule.specs.declared.step.Step.{Step}
 use Rattle.script.specs.Script.{IsScript, explains_script}
 use Rattle.script.specs.declared.error.ScriptError.TheVariants as errors
+use Rattle.logged_schedule.specs.Opening.{from_version}
+use Rattle.logged_schedule.specs.declared.error.StepError.{StepError}
+use Rattle.logged_schedule.specs.declared.error.StepError.TheVariants as unanswered
 use Rattle.recordctl.specs.declared.run.Begun.{Begun}
+use Rattle.recordctl.specs.declared.run.Stopped.{Stopped}
+use Rattle.recordctl.specs.declared.run.Stopped.TheVariants as stops
 use Rattle.recordctl.specs.declared.fault.Fault.{Fault}
 use Rattle.recordctl.specs.declared.fault.Fault.TheVariants.{OutOfMemory, BadScript, BadConfig}
 use Rattle.recordctl.specs.declared.fault.Fault.TheVariants.{CannotRead, BadArgument, Refused}
@@ -31,18 +36,33 @@ explains_run text GaveUp = ⊥
 explains_run text (RefusedCommand why) = ⊥
 explains_run text Corrupt = ⊥
 
--- Private: a script that is begun is that of a text, before its first step
-pub record IsBegunOf (text : List ℕ) (begun : Begun) : Type 0 where
-  pub config : Config
-  pub script : IsScript text config begun.steps.items
-  pub done : HasDone config [] [] begun.schedule
-  pub allowed : IsNone (config_refusal config)
+-- why a script isn't run to its end, where a step isn't answered
+abbrev pub stop_of : StepError → Stopped
+stop_of unanswered.Memory = stops.Refused OutOfMemory
+stop_of error = stops.Unlogged error
 
--- Private: a schedule is that of a text: the steps of the script were done over an empty database of its configuration
-pub record IsRunOf (text : List ℕ) (schedule : StepwiseState) : Type 0 where
+-- Private: a script that is begun is that of a text, over an empty database of its configuration
+pub record IsBegunOf (text : List ℕ) (begun : Begun) : Type 0 where
+  pub script : IsScript text begun.config begun.steps.items
+  pub done : HasDone begun.config [] [] begun.database
+  pub allowed : IsNone (config_refusal begun.config)
+
+-- Private: a database is that of a text: the steps of the script were done over an empty one of its configuration
+pub record IsRunOf (text : List ℕ) (database : StepwiseState) : Type 0 where
   pub config : Config
   pub steps : List Step
   pub replies : List Reply
   pub script : IsScript text config steps
-  pub done : HasDone config steps replies schedule
+  pub done : HasDone config steps replies database
+  pub allowed : IsNone (config_refusal config)
+
+-- Private: so it is where other steps may have been done before those of the script, from a version on
+pub record IsRunOver (text : List ℕ) (database : StepwiseState) : Type 0 where
+  pub config : Config
+  pub start : ℕ
+  pub before : List Step
+  pub steps : List Step
+  pub replies : List Reply
+  pub script : IsScript text config steps
+  pub done : HasDone (from_version start config) (before ++ steps) replies database
   pub allowed : IsNone (config_refusal config)

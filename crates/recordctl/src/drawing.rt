@@ -166,16 +166,22 @@ pub fn drawn_steps(
     begun: Begun,
     lines: &[Vec<u8>],
 ) -> Result<Vec<Event>, AllocError> {
-    let Begun { steps, schedule } = begun;
-    let mut schedule = schedule;
+    let Begun {
+        steps,
+        mut database,
+        ..
+    } = begun;
     let mut events = Vec::new(alloc);
     for (index, step) in steps.iter().enumerate() {
-        let (after, reply) = schedule.step(alloc, step)?;
-        schedule = after;
+        // A database in memory ends for want of memory alone.
+        let Ok((after, reply)) = database.step(alloc, step) else {
+            return Err(AllocError);
+        };
+        database = after;
         let line = lines
             .get(index)
             .map_or(&[] as &[u8], |line| line.as_slice());
-        events.push(event_of(alloc, schedule.cluster(), line, step, &reply)?)?;
+        events.push(event_of(alloc, database.cluster(), line, step, &reply)?)?;
     }
     Ok(events)
 }

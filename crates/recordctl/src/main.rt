@@ -10,7 +10,9 @@ mod checks;
 mod drawing;
 mod echo;
 mod fault;
+mod folders;
 mod input;
+mod logs;
 mod plans;
 mod printing;
 mod racing;
@@ -22,6 +24,7 @@ mod tuples;
 use checks::{check_files, check_input};
 use command_line::{CommandLineError, PlanForm, Request, RunWords, request_of, version_line};
 use fault::Fault;
+use logs::print_log;
 use plans::print_plan;
 use printing::{print_line, refuse};
 use racing::run_race;
@@ -54,10 +57,12 @@ fn refuse_command_line<E: Write>(errors: &mut E, error: &CommandLineError) -> Ex
     }
 }
 
-// Runs the script that the input stands for, and prints what is asked for.
-fn run_as<R: Read, W: Write, E: Write>(
-    alloc: Global,
+// Runs the script that the input stands for, over the database in a folder where one is named, and
+// prints what is asked for.
+fn run_as<H: Files<File = File> + AllocGlobal, R: Read, W: Write, E: Write>(
+    rt: &H,
     words: RunWords,
+    folder: Option<&str>,
     is_watched: bool,
     input: &mut R,
     output: &mut W,
@@ -66,26 +71,31 @@ fn run_as<R: Read, W: Write, E: Write>(
     ensures { exit_status result ≤ 1 }
 {
     if words.is_drawn {
-        draw_run(alloc, input, output, errors)
+        draw_run(rt.alloc(), input, output, errors)
     } else {
-        run(alloc, words, is_watched, input, output, errors)
+        run(rt, words, folder, is_watched, input, output, errors)
     }
 }
 
-// Runs the script in a file.
-fn run_file<H: Files + AllocGlobal, W: Write, E: Write>(
+// Runs the script in a file, or without one that which the input stands for.
+fn run_file<H: Files<File = File> + AllocGlobal, R: Read, W: Write, E: Write>(
     rt: &H,
     words: RunWords,
+    path: Option<&str>,
+    folder: Option<&str>,
     terminals: Terminals,
-    path: &str,
+    input: &mut R,
     output: &mut W,
     errors: &mut E,
 ) -> ExitCode
     ensures { exit_status result ≤ 1 }
 {
+    let Some(path) = path else {
+        return run_as(rt, words, folder, false, input, output, errors);
+    };
     let is_watched = terminals.is_watched && !terminals.is_read;
     match File::open(rt, path) {
-        Ok(mut file) => run_as(rt.alloc(), words, is_watched, &mut file, output, errors),
+        Ok(mut file) => run_as(rt, words, folder, is_watched, &mut file, output, errors),
         Err(_) => refuse(errors, Fault::CannotRead),
     }
 }
@@ -143,7 +153,12 @@ fn print_version<W: Write, E: Write>(alloc: Global, output: &mut W, errors: &mut
 }
 
 // Does what the words of the command line ask for, where a text that isn't in a file is read from the input.
-fn perform<H: Files + AllocGlobal + Threads + Wait + Sync, R: Read, W: Write, E: Write>(
+fn perform<
+    H: Files<File = File> + AllocGlobal + Threads + Wait + Sync,
+    R: Read,
+    W: Write,
+    E: Write,
+>(
     rt: &H,
     words: &[String],
     terminals: Terminals,
@@ -155,10 +170,10 @@ fn perform<H: Files + AllocGlobal + Threads + Wait + Sync, R: Read, W: Write, E:
 {
     let alloc = rt.alloc();
     match request_of(alloc, words) {
-        Ok(Request::Run(words, Some(path))) => {
-            run_file(rt, words, terminals, path.as_str(), output, errors)
+        Ok(Request::Run(words, path, folder)) => {
+            let (path, folder) = (path.as_deref(), folder.as_deref());
+            run_file(rt, words, path, folder, terminals, input, output, errors)
         }
-        Ok(Request::Run(words, None)) => run_as(alloc, words, false, input, output, errors),
         Ok(Request::Check(paths)) if paths.is_empty() => check_input(alloc, input, output, errors),
         Ok(Request::Check(paths)) => check_files(rt, paths.as_slice(), output, errors),
         Ok(Request::Explain(form, Some(path))) => {
@@ -173,8 +188,12 @@ fn perform<H: Files + AllocGlobal + Threads + Wait + Sync, R: Read, W: Write, E:
         Ok(Request::Race(Some(path))) => race_file(rt, path.as_str(), output, errors),
         Ok(Request::Race(None)) => run_race(rt, alloc, input, output, errors),
         Ok(Request::Version) => print_version(alloc, output, errors),
-        Ok(Request::Simulate(words)) => simulate(alloc, words, output, errors),
-        Ok(Request::Shell(words)) => run_typed(rt, words, terminals, input, output, errors),
+        Ok(Request::Simulate(words)) => simulate(rt, words, output, errors),
+        Ok(Request::Shell(words, folder)) => {
+            let folder = folder.as_deref();
+            run_typed(rt, words, folder, terminals, input, output, errors)
+        }
+        Ok(Request::Log(folder)) => print_log(rt, folder.as_str(), output, errors),
         Err(error) => refuse_command_line(errors, &error),
     }
 }

@@ -4,12 +4,13 @@ ghost use Rattle.std.specs.Io.KnownBytes.{Appends};
 ghost use Rattle.std.specs.Process.{exit_status};
 
 use crate::fault::Fault;
+use std::fmt::Display;
 use std::io;
 use std::io::Write;
 use std::process::ExitCode;
 
 /// Prints the line of a fault, and answers the exit status, which is 1.
-pub fn refuse<E: Write>(errors: &mut E, fault: Fault) -> ExitCode
+pub fn refuse<E: Write, F: Display + Drop>(errors: &mut E, fault: F) -> ExitCode
     ensures { exit_status result ≡ 1 }
 {
     let _ = writeln!(errors, "{fault}");

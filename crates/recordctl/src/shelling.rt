@@ -3,9 +3,12 @@ ghost use Rattle.std.specs.Prelude.{◌≤◌};
 ghost use Rattle.std.specs.Process.{exit_status};
 
 use crate::fault::Fault;
+use crate::folders::database_in;
 use crate::printing::refuse;
+use cluster_core::Config;
 use command_line::ShellWords;
-use shell::{RowForm, ShellError, Telling, Watch, run_shell};
+use shell::{Database, FolderError, RowForm, ShellError, Telling, Watch, run_shell};
+use std::fs::File;
 use std::io::{Read, Write};
 use std::process::ExitCode;
 use std::rt::Files;
@@ -44,12 +47,27 @@ fn telling_of(words: ShellWords, terminals: Terminals) -> Telling {
     }
 }
 
-/// Does the steps that are typed, each as it comes, and tells what it replies. Answers the exit
-/// status: 0 at the end of the input, or 1 with a line on `errors` where it can't be read or memory
-/// is wanting, and 1 without one where `output` can't be written.
-pub fn run_typed<H: Files + AllocGlobal, R: Read, W: Write, E: Write>(
+// The database in a folder, or without one an empty one.
+fn typed_database<H: Files<File = File> + AllocGlobal>(
+    rt: &H,
+    folder: Option<&str>,
+) -> Result<Database, FolderError> {
+    let config = Config::single(rt.alloc());
+    match Database::new(rt.alloc(), &config) {
+        Ok(empty) => database_in(rt, folder, config, empty),
+        Err(_) => Err(FolderError::OutOfMemory),
+    }
+}
+
+/// Does the steps that are typed, each as it comes, and tells what it replies: over the database in
+/// a folder, which is made where it isn't there, or without one over one in memory. Answers the
+/// exit status: 0 at the end of the input, or 1 with a line on `errors` where the database isn't
+/// opened, its log doesn't go on, the input can't be read or memory is wanting, and 1 without one
+/// where `output` can't be written.
+pub fn run_typed<H: Files<File = File> + AllocGlobal, R: Read, W: Write, E: Write>(
     rt: &H,
     words: ShellWords,
+    folder: Option<&str>,
     terminals: Terminals,
     input: &mut R,
     output: &mut W,
@@ -57,10 +75,16 @@ pub fn run_typed<H: Files + AllocGlobal, R: Read, W: Write, E: Write>(
 ) -> ExitCode
     ensures { exit_status result ≤ 1 }
 {
-    match run_shell(rt, telling_of(words, terminals), input, output, errors) {
+    let telling = telling_of(words, terminals);
+    let database = match typed_database(rt, folder) {
+        Ok(database) => database,
+        Err(error) => return refuse(errors, error),
+    };
+    match run_shell(rt, telling, database, input, output, errors) {
         Ok(_) => ExitCode::SUCCESS,
         Err(ShellError::OutOfMemory) => refuse(errors, Fault::OutOfMemory),
         Err(ShellError::CannotRead) => refuse(errors, Fault::CannotRead),
         Err(ShellError::CannotWrite) => ExitCode::FAILURE,
+        Err(ShellError::Unlogged(error)) => refuse(errors, error),
     }
 }

@@ -8,9 +8,10 @@ use crate::printing::{print_line, refuse};
 use crate::run::{draw_run, run};
 use command_line::{RunWords, SimulationWords};
 use simulation::{Simulation, script_text};
-use std::alloc::Global;
+use std::fs::File;
 use std::io::Write;
 use std::process::ExitCode;
+use std::rt::Files;
 
 // What is printed of a run.
 const ECHO: RunWords = RunWords {
@@ -20,8 +21,8 @@ const ECHO: RunWords = RunWords {
 };
 
 // Runs a script, and prints each step and its reply, or a drawing of them.
-fn run_text<W: Write, E: Write>(
-    alloc: Global,
+fn run_text<H: Files<File = File> + AllocGlobal, W: Write, E: Write>(
+    rt: &H,
     is_drawn: bool,
     text: &str,
     output: &mut W,
@@ -33,17 +34,17 @@ fn run_text<W: Write, E: Write>(
 {
     let mut input = text.as_bytes();
     if is_drawn {
-        draw_run(alloc, &mut input, output, errors)
+        draw_run(rt.alloc(), &mut input, output, errors)
     } else {
-        run(alloc, ECHO, false, &mut input, output, errors)
+        run(rt, ECHO, None, false, &mut input, output, errors)
     }
 }
 
 /// Prints the random script that is asked for, or runs it and prints each step and its reply, or a
 /// drawing of them. Answers the exit status: 0, or 1 with a line on `errors` for want of memory,
 /// and 1 without one where `output` can't be written.
-pub fn simulate<W: Write, E: Write>(
-    alloc: Global,
+pub fn simulate<H: Files<File = File> + AllocGlobal, W: Write, E: Write>(
+    rt: &H,
     words: SimulationWords,
     output: &mut W,
     errors: &mut E,
@@ -56,9 +57,9 @@ pub fn simulate<W: Write, E: Write>(
         clients: words.clients,
         steps: words.steps,
     };
-    match script_text(alloc, simulation) {
+    match script_text(rt.alloc(), simulation) {
         Ok(text) if words.is_run || words.is_drawn => {
-            run_text(alloc, words.is_drawn, text.as_str(), output, errors)
+            run_text(rt, words.is_drawn, text.as_str(), output, errors)
         }
         Ok(text) => print_line(output, errors, Ok(text)),
         Err(_) => refuse(errors, Fault::OutOfMemory),

@@ -1,11 +1,12 @@
 -- Schedules after more steps.
 use Rattle.std.proofs.Common.{◌≡◌, ◌∙◌, ℕ, ◌+◌, ◌<◌, List, [], ◌∷◌, ◌++◌, length, get_or, take, ap, sym, subst₂, append-nil, append_assoc}
 use Rattle.std.proofs.lemmas.List.{take_more}
-use Rattle.cluster_core.specs.Configuration.{single}
+use Rattle.cluster_core.specs.declared.answers.Config.{Config}
 use Rattle.schedule.specs.declared.step.Step.{Step}
 use Rattle.schedule.specs.declared.reply.Reply.{Reply}
 use Rattle.schedule.specs.Stepwise.{DoesNext, HasDone, StepwiseState}
-use Rattle.shell.specs.Further.{HasDoneNext, IsAfter, IsFurther, IsOfSteps}
+use Rattle.logged_schedule.specs.Opening.{from_version}
+use Rattle.shell.specs.Further.{HasDoneNext, IsAfter, IsFurther, IsOfStepsOver}
 
 -- ---- steps up to a place
 
@@ -48,8 +49,9 @@ further_one step reply before after one = further_steps (step ∷ []) before aft
 pub further_both : (a b c : StepwiseState) → IsFurther a b → IsFurther b c → IsFurther a c
 further_both a b c first last start so_far = last start (first start so_far)
 
-pub steps_of : (begun state : StepwiseState) → HasDone single [] [] begun → IsFurther begun state → IsOfSteps state
-steps_of begun state empty further =
-    let (steps, next) = further begun (after_none begun) in
-    let (replies, done) = next single [] [] empty in
-    (steps, replies, done)
+-- where some steps were done, and then some more
+pub steps_further : (config : Config) (start : ℕ) (before after : StepwiseState) → IsFurther before after → IsOfStepsOver config start before → IsOfStepsOver config start after
+steps_further config start before after further (steps, replies, done) =
+    let (more, next) = further before (after_none before) in
+    let (told, longer) = next (from_version start config) steps replies done in
+    (steps ++ more, replies ++ told, longer)

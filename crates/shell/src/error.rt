@@ -1,7 +1,8 @@
 // Why a shell ends. Used by every module here; `recordctl` prints it.
-use schedule::ScheduleError;
+use logged_schedule::StepError;
 use std::alloc::{AllocError, AllocFailed};
 use std::io;
+use std::io::ErrorKind;
 
 /// Why a shell ends before its input does.
 #[derive(Debug, Drop)]
@@ -12,6 +13,8 @@ pub enum ShellError {
     CannotWrite,
     /// The input can't be read.
     CannotRead,
+    /// The log of the database doesn't go on.
+    Unlogged(StepError),
 }
 
 impl From<AllocError> for ShellError {
@@ -27,13 +30,23 @@ impl<T: Drop> From<AllocFailed<T>> for ShellError {
 }
 
 impl From<io::Error> for ShellError {
-    fn from(_error: io::Error) -> ShellError {
-        ShellError::CannotWrite
+    fn from(error: io::Error) -> ShellError {
+        // As where a buffer isn't made.
+        if error.kind() == ErrorKind::OutOfMemory {
+            ShellError::OutOfMemory
+        } else {
+            ShellError::CannotWrite
+        }
     }
 }
 
-impl From<ScheduleError> for ShellError {
-    fn from(_error: ScheduleError) -> ShellError {
-        ShellError::OutOfMemory
+impl From<StepError> for ShellError {
+    fn from(error: StepError) -> ShellError {
+        match error {
+            StepError::Memory => ShellError::OutOfMemory,
+            StepError::Full | StepError::Unknown | StepError::Starved => {
+                ShellError::Unlogged(error)
+            }
+        }
     }
 }

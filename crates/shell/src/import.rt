@@ -2,9 +2,11 @@
 ghost use Rattle.std.specs.Prelude.{◌≡◌, IfOk};
 ghost use Rattle.shell.specs.Further.{IsFurther};
 
+use crate::database::Database;
+use crate::error::ShellError;
 use metadata::Cells;
 use record_store::StoreNumber;
-use schedule::{Command, Refusal, Reply, Report, Schedule, Step};
+use schedule::{Command, Refusal, Reply, Report, Step};
 use script::push_reply;
 use std::alloc::{AllocError, Global};
 use tuple_codec::Text;
@@ -23,7 +25,7 @@ pub(crate) struct Importer {
 /// yet, whether a transaction for them is open, and why it doesn't go on, where it doesn't.
 #[derive(Drop)]
 pub(crate) struct Import {
-    pub schedule: Schedule,
+    pub schedule: Database,
     importer: Importer,
     pub saved: u64,
     pub uncommitted: u64,
@@ -75,7 +77,7 @@ fn save_step(alloc: Global, client: u64, name: &str, cells: Cells) -> Result<Ste
 
 impl Import {
     // Does a step. Where it doesn't do what it was to do, it is told why it doesn't go on.
-    fn step(self, alloc: Global, step: &Step) -> Result<Import, AllocError>
+    fn step(self, alloc: Global, step: &Step) -> Result<Import, ShellError>
         ensures { IfOk result (λ after. IsFurther self.schedule after.schedule) }
     {
         let (schedule, reply) = self.schedule.step(alloc, step)?;
@@ -91,7 +93,7 @@ impl Import {
     }
 
     // Begins a transaction.
-    fn open(self, alloc: Global) -> Result<Import, AllocError>
+    fn open(self, alloc: Global) -> Result<Import, ShellError>
         ensures { IfOk result (λ after. IsFurther self.schedule after.schedule) }
     {
         let importer = self.importer;
@@ -105,9 +107,9 @@ impl Import {
     /// Begins the first transaction.
     pub(crate) fn begin(
         alloc: Global,
-        schedule: Schedule,
+        schedule: Database,
         importer: Importer,
-    ) -> Result<Import, AllocError>
+    ) -> Result<Import, ShellError>
         ensures { IfOk result (λ after. IsFurther schedule after.schedule) }
     {
         let import = Import {
@@ -122,7 +124,7 @@ impl Import {
     }
 
     // Submits the open transaction, and has all roles do what there is to do.
-    fn submit(self, alloc: Global) -> Result<Import, AllocError>
+    fn submit(self, alloc: Global) -> Result<Import, ShellError>
         ensures { IfOk result (λ after. IsFurther self.schedule after.schedule) }
     {
         let client = self.importer.client;
@@ -134,7 +136,7 @@ impl Import {
     }
 
     // Commits the open transaction. Where that can't be, its records aren't saved.
-    fn commit(self, alloc: Global) -> Result<Import, AllocError>
+    fn commit(self, alloc: Global) -> Result<Import, ShellError>
         ensures { IfOk result (λ after. IsFurther self.schedule after.schedule) }
     {
         let Import {
@@ -157,7 +159,7 @@ impl Import {
     }
 
     // Saves a record in the open transaction; with false it doesn't fit there.
-    fn save_here(self, alloc: Global, save: &Step) -> Result<(Import, bool), AllocError>
+    fn save_here(self, alloc: Global, save: &Step) -> Result<(Import, bool), ShellError>
         ensures { IfOk result (λ after. IsFurther self.schedule after.0.schedule) }
     {
         let is_first = self.uncommitted == 0;
@@ -181,7 +183,7 @@ impl Import {
     }
 
     // Commits what is saved so far, and saves a record in the next transaction.
-    fn save_next(self, alloc: Global, save: &Step) -> Result<Import, AllocError>
+    fn save_next(self, alloc: Global, save: &Step) -> Result<Import, ShellError>
         ensures { IfOk result (λ after. IsFurther self.schedule after.schedule) }
     {
         let import = self.commit(alloc)?;
@@ -194,7 +196,7 @@ impl Import {
     }
 
     // Saves the record of a step, in the open transaction or in the next one.
-    fn save_by(self, alloc: Global, save: &Step) -> Result<Import, AllocError>
+    fn save_by(self, alloc: Global, save: &Step) -> Result<Import, ShellError>
         ensures { IfOk result (λ after. IsFurther self.schedule after.schedule) }
     {
         if self.uncommitted >= RECORDS {
@@ -209,7 +211,7 @@ impl Import {
     }
 
     /// Saves a record of the type of this name.
-    pub(crate) fn save(self, alloc: Global, name: &str, cells: Cells) -> Result<Import, AllocError>
+    pub(crate) fn save(self, alloc: Global, name: &str, cells: Cells) -> Result<Import, ShellError>
         ensures { IfOk result (λ after. IsFurther self.schedule after.schedule) }
     {
         let save = save_step(alloc, self.importer.client, name, cells)?;
@@ -226,7 +228,7 @@ impl Import {
     }
 
     /// Commits what is saved, also where it doesn't go on.
-    pub(crate) fn end(self, alloc: Global) -> Result<Import, AllocError>
+    pub(crate) fn end(self, alloc: Global) -> Result<Import, ShellError>
         ensures { IfOk result (λ after. IsFurther self.schedule after.schedule) }
     {
         if !self.is_open {

@@ -2,6 +2,7 @@
 ghost use Rattle.std.specs.Prelude.{IfOk};
 ghost use Rattle.shell.specs.Further.{IsFurther};
 
+use crate::database::Database;
 use crate::error::ShellError;
 use crate::import::{Import, Importer};
 use crate::lines::next_line;
@@ -9,7 +10,7 @@ use crate::stores::Stores;
 use crate::telling::{Telling, Watch, tell};
 use csv::{Error, ErrorKind, Reader, StringRecord};
 use metadata::{Cells, Field};
-use schedule::{Reply, Schedule, Step};
+use schedule::{Reply, Step};
 use shell_text::{Progress, RowError, cells_of_line, cells_of_row, fields_of, places_of};
 use std::alloc::{AllocError, Global};
 use std::fs::File;
@@ -241,9 +242,9 @@ fn settle<W: Write>(
     alloc: Global,
     telling: Telling,
     stores: &Stores,
-    schedule: Schedule,
+    schedule: Database,
     output: &mut W,
-) -> Result<Schedule, ShellError>
+) -> Result<Database, ShellError>
     ensures { IfOk result (IsFurther schedule) }
 {
     let (schedule, reply) = schedule.step(alloc, &Step::Settle)?;
@@ -302,13 +303,13 @@ fn import_open<R: Read, W: Write, E: Write>(
     alloc: Global,
     telling: Telling,
     stores: &Stores,
-    schedule: Schedule,
+    schedule: Database,
     path: &str,
     target: &Target<'_>,
     file: &mut R,
     output: &mut W,
     errors: &mut E,
-) -> Result<Schedule, ShellError>
+) -> Result<Database, ShellError>
     ensures { IfOk result (IsFurther schedule) }
 {
     let schedule = settle(alloc, telling, stores, schedule, output)?;
@@ -334,11 +335,11 @@ pub(crate) fn import_file<H: Files + AllocGlobal, W: Write, E: Write>(
     rt: &H,
     telling: Telling,
     stores: &Stores,
-    schedule: Schedule,
+    schedule: Database,
     order: &Order,
     output: &mut W,
     errors: &mut E,
-) -> Result<Schedule, ShellError>
+) -> Result<Database, ShellError>
     ensures { IfOk result (IsFurther schedule) }
 {
     let alloc = rt.alloc();

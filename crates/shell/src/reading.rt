@@ -1,16 +1,15 @@
 // The lines of the input, read and done one after another. Called by `recordctl`.
-ghost use Rattle.std.specs.Prelude.{IfOk};
-ghost use Rattle.shell.specs.Further.{IsFurther, IsOfSteps};
+ghost use Rattle.std.specs.Prelude.{ℕ, IfOk};
+ghost use Rattle.shell.specs.Further.{IsFurther, IsOfStepsFrom};
 
+use crate::database::Database;
 use crate::error::ShellError;
 use crate::importing::import_file;
 use crate::lines::{next_line, without_end};
 use crate::scripts::do_script;
 use crate::session::{Asked, Done, Session, do_line};
 use crate::telling::{Telling, Watch};
-use cluster_core::Config;
 use json_forms::MAX_TEXT_BYTES;
-use schedule::Schedule;
 use shell_text::Progress;
 use std::alloc::Global;
 use std::fs::File;
@@ -24,12 +23,15 @@ const PROMPT: &[u8] = b"> ";
 const GREETING: &[u8] =
     b"The database is empty, and ends with the shell. help tells what can be typed.\n";
 
+const LOGGED_GREETING: &[u8] =
+    b"What is committed stays in the folder. help tells what can be typed.\n";
+
 // Does a line of bytes.
 fn do_bytes<W: Write>(
     alloc: Global,
     telling: Telling,
     session: &mut Session,
-    schedule: Schedule,
+    schedule: Database,
     bytes: &[u8],
     output: &mut W,
 ) -> Result<Done, ShellError>
@@ -60,7 +62,7 @@ fn do_lines<R: Read, W: Write, E: Write>(
     telling: Telling,
     progress: &mut Progress,
     session: &mut Session,
-    schedule: Schedule,
+    schedule: Database,
     input: &mut BufReader<R>,
     output: &mut W,
     errors: &mut E,
@@ -103,7 +105,7 @@ fn do_asked_in_file<H: Files + AllocGlobal, W: Write, E: Write>(
     done: Done,
     output: &mut W,
     errors: &mut E,
-) -> Result<(Schedule, bool), ShellError>
+) -> Result<(Database, bool), ShellError>
     ensures { IfOk result (λ after. IsFurther done.schedule after.0) }
 {
     let Done { schedule, asked } = done;
@@ -127,11 +129,11 @@ fn do_file_lines<H: Files + AllocGlobal, R: Read, W: Write, E: Write>(
     rt: &H,
     telling: Telling,
     session: &mut Session,
-    schedule: Schedule,
+    schedule: Database,
     input: &mut BufReader<R>,
     output: &mut W,
     errors: &mut E,
-) -> Result<Schedule, ShellError>
+) -> Result<Database, ShellError>
     ensures { IfOk result (IsFurther schedule) }
 {
     let alloc = rt.alloc();
@@ -192,11 +194,11 @@ fn read_lines<H: Files + AllocGlobal, W: Write, E: Write>(
     rt: &H,
     telling: Telling,
     session: &mut Session,
-    schedule: Schedule,
+    schedule: Database,
     path: &str,
     output: &mut W,
     errors: &mut E,
-) -> Result<Schedule, ShellError>
+) -> Result<Database, ShellError>
     ensures { IfOk result (IsFurther schedule) }
 {
     let Ok(mut file) = File::open(rt, path) else {
@@ -231,11 +233,11 @@ fn read_file<H: Files + AllocGlobal, W: Write, E: Write>(
     rt: &H,
     telling: Telling,
     session: &mut Session,
-    schedule: Schedule,
+    schedule: Database,
     path: &str,
     output: &mut W,
     errors: &mut E,
-) -> Result<Schedule, ShellError>
+) -> Result<Database, ShellError>
     ensures { IfOk result (IsFurther schedule) }
 {
     match script_in(rt, path) {
@@ -260,7 +262,7 @@ fn do_asked<H: Files + AllocGlobal, W: Write, E: Write>(
     done: Done,
     output: &mut W,
     errors: &mut E,
-) -> Result<(Schedule, bool), ShellError>
+) -> Result<(Database, bool), ShellError>
     ensures { IfOk result (λ after. IsFurther done.schedule after.0) }
 {
     let Done { schedule, asked } = done;
@@ -281,11 +283,11 @@ fn do_asked<H: Files + AllocGlobal, W: Write, E: Write>(
 fn do_all<H: Files + AllocGlobal, R: Read, W: Write, E: Write>(
     rt: &H,
     telling: Telling,
-    schedule: Schedule,
+    schedule: Database,
     input: &mut BufReader<R>,
     output: &mut W,
     errors: &mut E,
-) -> Result<Schedule, ShellError>
+) -> Result<Database, ShellError>
     ensures { IfOk result (IsFurther schedule) }
 {
     let alloc = rt.alloc();
@@ -312,26 +314,41 @@ fn do_all<H: Files + AllocGlobal, R: Read, W: Write, E: Write>(
     Ok(schedule)
 }
 
-/// Reads lines and does each as it comes, over an empty database, to the end of the input. What is
-/// told is written on `output`, and how far long work is on `errors`. Answers the schedule in which
-/// it ends: that of all steps that were done, one after another.
+// What is told before the first line.
+fn greeting_of(database: &Database) -> &'static [u8] {
+    if database.is_logged() {
+        LOGGED_GREETING
+    } else {
+        GREETING
+    }
+}
+
+/// Reads lines and does each as it comes, over a database, to the end of the input. What is told is
+/// written on `output`, and how far long work is on `errors`. Answers the database in which it
+/// ends: that of all steps that were done before, and then of these, one after another.
+///
+/// It is refused with `OutOfMemory` where memory is wanting, with `CannotRead` where the input
+/// can't be read, with `CannotWrite` where the output can't be written, and with `Unlogged` where
+/// the log of the database doesn't go on.
 pub fn run_shell<H: Files + AllocGlobal, R: Read, W: Write, E: Write>(
     rt: &H,
     telling: Telling,
+    database: Database,
     input: &mut R,
     output: &mut W,
     errors: &mut E,
-) -> Result<Schedule, ShellError>
-    ensures { IfOk result IsOfSteps }
+) -> Result<Database, ShellError>
+    ensures further { IfOk result (IsFurther database) }
+    ensures steps { (start : ℕ) → IsOfStepsFrom start database
+        → IfOk result (IsOfStepsFrom start) }
 {
     let alloc = rt.alloc();
-    let begun = Schedule::new(alloc, &Config::single(alloc))?;
     let mut input = BufReader::new(alloc, input)?;
     let mut output = BufWriter::new(alloc, output)?;
     if telling.is_prompting {
-        output.write_all(GREETING)?;
+        output.write_all(greeting_of(&database))?;
     }
-    let schedule = do_all(rt, telling, begun, &mut input, &mut output, errors)?;
+    let after = do_all(rt, telling, database, &mut input, &mut output, errors)?;
     output.flush()?;
-    Ok(schedule)
+    Ok(after)
 }

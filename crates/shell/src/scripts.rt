@@ -2,13 +2,14 @@
 ghost use Rattle.std.specs.Prelude.{IfOk};
 ghost use Rattle.shell.specs.Further.{IsFurther};
 
+use crate::database::Database;
 use crate::error::ShellError;
 use crate::session::Session;
 use crate::stepping::do_steps;
 use crate::stores::Stores;
 use crate::telling::Telling;
 use cluster_core::Config;
-use schedule::{Schedule, Step};
+use schedule::Step;
 use script::{ScriptError, script_with};
 use script_check::{check, problem_lines};
 use shell_text::step_lines;
@@ -36,11 +37,11 @@ fn do_shown<W: Write>(
     alloc: Global,
     telling: Telling,
     stores: &mut Stores,
-    schedule: Schedule,
+    schedule: Database,
     steps: &[Step],
     lines: &[Vec<u8>],
     output: &mut W,
-) -> Result<Schedule, ShellError>
+) -> Result<Database, ShellError>
     ensures { IfOk result (IsFurther schedule) }
 {
     let mut schedule = schedule;
@@ -71,11 +72,11 @@ pub(crate) fn do_script<W: Write>(
     alloc: Global,
     telling: Telling,
     session: &mut Session,
-    schedule: Schedule,
+    schedule: Database,
     path: &str,
     text: &[u8],
     output: &mut W,
-) -> Result<Schedule, ShellError>
+) -> Result<Database, ShellError>
     ensures { IfOk result (IsFurther schedule) }
 {
     match script_with(alloc, &mut session.scratch, text) {

@@ -2,6 +2,7 @@
 ghost use Rattle.std.specs.Prelude.{IfOk};
 ghost use Rattle.shell.specs.Further.{IsFurther};
 
+use crate::database::Database;
 use crate::dump::write_dump;
 use crate::error::ShellError;
 use crate::importing::Order;
@@ -12,7 +13,7 @@ use cluster_core::Cluster;
 use json::Scratch;
 use json_places::Cursor;
 use record_store::{StoreError, StoreNumber};
-use schedule::{Schedule, Step};
+use schedule::Step;
 use script::{ScriptError, script_with};
 use script_check::check;
 use shell_line::{Flaw, Line, LineError, Show, line_of, place_in_line};
@@ -95,11 +96,11 @@ fn do_text<W: Write>(
     alloc: Global,
     telling: Telling,
     session: &mut Session,
-    schedule: Schedule,
+    schedule: Database,
     line: &str,
     text: &str,
     output: &mut W,
-) -> Result<Schedule, ShellError>
+) -> Result<Database, ShellError>
     ensures { IfOk result (IsFurther schedule) }
 {
     let framed = framed(alloc, text)?;
@@ -180,7 +181,7 @@ fn lines_of(
 // Tells something of what is committed in the store of a number.
 fn tell_show<W: Write>(
     alloc: Global,
-    schedule: &Schedule,
+    schedule: &Database,
     number: StoreNumber,
     show: &Show,
     output: &mut W,
@@ -216,7 +217,7 @@ pub(crate) enum Asked {
 // A schedule after a line, and what the line asks for beside that.
 #[derive(Drop)]
 pub(crate) struct Done {
-    pub schedule: Schedule,
+    pub schedule: Database,
     pub asked: Asked,
 }
 
@@ -231,7 +232,7 @@ pub(crate) fn do_line<W: Write>(
     alloc: Global,
     telling: Telling,
     session: &mut Session,
-    schedule: Schedule,
+    schedule: Database,
     line: &str,
     output: &mut W,
 ) -> Result<Done, ShellError>

@@ -2,10 +2,11 @@
 ghost use Rattle.std.specs.Prelude.{IfOk};
 ghost use Rattle.shell.specs.Further.{HasDoneNext, IsFurther};
 
+use crate::database::Database;
 use crate::error::ShellError;
 use crate::stores::Stores;
 use crate::telling::{Telling, tell};
-use schedule::{Schedule, Step};
+use schedule::Step;
 use std::alloc::Global;
 use std::io::Write;
 
@@ -14,10 +15,10 @@ pub(crate) fn do_steps<W: Write>(
     alloc: Global,
     telling: Telling,
     stores: &mut Stores,
-    schedule: Schedule,
+    schedule: Database,
     steps: &[Step],
     output: &mut W,
-) -> Result<Schedule, ShellError>
+) -> Result<Database, ShellError>
     ensures next { IfOk result (HasDoneNext steps.now schedule) }
     ensures further { IfOk result (IsFurther schedule) }
 {

@@ -1,9 +1,6 @@
-use Rattle.std.proofs.Common.{[], subst}
-use Rattle.schedule.specs.Stepwise.{HasDone}
-use Rattle.shell.proofs.Further.{steps_of}
+use Rattle.cluster_core.specs.Configuration.{single}
+use Rattle.shell.proofs.Further.{steps_further}
 use Rattle.shell.proofs.reading.run_shell.Goals as goal
 
-pub returns : goal.returns
-returns g c =
-    steps_of c.in_ok-begun.begun c.in_ok-schedule.schedule (subst (λ config. HasDone config [] [] c.in_ok-begun.begun) c.single.ensures.value c.in_ok-begun.ensures.begun)
-    c.in_ok-schedule.ensures
+pub returns-clause-steps : goal.returns-clause-steps
+returns-clause-steps g c = λ start of. steps_further single start c.args.database c.in_ok-after.after c.in_ok-after.ensures of

@@ -1,0 +1,12 @@
+pub mod Places
+pub mod Waiting
+pub mod Longer
+pub mod Losing
+pub mod Logs
+pub mod Whys
+pub mod Repeats
+pub mod Stepping
+pub mod Versions
+pub mod Even
+pub mod Listed
+pub mod Rising

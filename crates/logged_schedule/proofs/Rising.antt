@@ -1,0 +1,258 @@
+-- The versions of what is logged rise, over plain values.
+use Rattle.std.proofs.Common.{◌≡◌, ◌∙◌, ◌⊎◌, nat_lt, ℕ, suc, ◌+◌, ◌-◌, ◌<◌, ◌≤◌, Bool, true, false, cond, List, [], ◌∷◌, ◌++◌, length, take, drop, max, inl, inr, ap, refl, sym, subst, append-nil, arith}
+use Rattle.std.specs.Prelude.{map}
+use Rattle.std.specs.List.{filter}
+use Rattle.std.proofs.lemmas.Bool.{ltb-true, ltb-false}
+use Rattle.std.proofs.lemmas.List.{length-append, length-map}
+use Rattle.kv_core.specs.declared.change.CommitRequest.{CommitRequest}
+use Rattle.cluster_core.specs.declared.answers.Config.{Config}
+use Rattle.cluster_core.specs.Cluster.{ClusterState, pull, with_pipeline}
+use Rattle.cluster_core.specs.Roles.{PipelineState, append, report, resolve}
+use Rattle.command_log.specs.declared.entry.Entry.{Entry}
+use Rattle.replay.specs.Logged.{last_version}
+use Rattle.schedule.specs.declared.reply.Reply.{Reply}
+use Rattle.schedule.specs.declared.reply.Reply.TheVariants as answers
+use Rattle.schedule.specs.declared.reply.Report.{Report}
+use Rattle.schedule.specs.declared.reply.Report.TheVariants.{Committed, Conflict, Unknown}
+use Rattle.schedule.specs.declared.step.Step.{Step}
+use Rattle.schedule.specs.declared.step.Step.TheVariants as steps
+use Rattle.schedule.specs.Contract.{past_of}
+use Rattle.schedule.specs.Past.{Past, Submission, open_of, submission, submitted_after, submitted_in}
+use Rattle.schedule.specs.Standing.{cluster_after, is_done, is_reported, is_submitted, with_next}
+use Rattle.schedule.specs.Stepwise.{HasDone, StepwiseState}
+use Rattle.schedule.proofs.Submitting.{AreVersioned}
+use Rattle.logged_schedule.specs.Entries.{logged_as, logged_in, newly_logged, reports_in, told_first, waiting_in}
+use Rattle.logged_schedule.specs.Keeping.{SayTheSame, VersionsRise}
+use Rattle.logged_schedule.specs.Runs.{LosesNone, Run, past_in}
+use Rattle.logged_schedule.proofs.Even.{IsEven, drop_length, take_short}
+use Rattle.logged_schedule.proofs.Listed.{even_done}
+use Rattle.logged_schedule.proofs.Longer.{longer_past}
+use Rattle.logged_schedule.proofs.Versions.{told_so, versions_left}
+
+-- ---- versions that rise
+
+rise_both : (version : ℕ) (some others : List Entry) → VersionsRise version some → VersionsRise (last_version version some) others → VersionsRise version (some ++ others)
+rise_both version [] others first last = last
+rise_both version (entry ∷ some) others first last = (first.0, rise_both entry.version some others first.1 last)
+
+last_both : (version : ℕ) (some others : List Entry) → last_version version (some ++ others) ≡ last_version (last_version version some) others
+last_both version [] others = refl
+last_both version (entry ∷ some) others = last_both entry.version some others
+
+-- so many versions are told of at most
+abbrev Within : (last limit : ℕ) → List Report → List Submission → Type 0
+Within last limit reports waiting = (last + length reports ≤ limit) ⊎ (last + length waiting ≤ limit)
+
+within_next : (last limit : ℕ) (report : Report) (reports : List Report) (one : Submission) (waiting : List Submission) → Within last limit (report ∷ reports) (one ∷ waiting) → Within (last + 1) limit reports waiting
+within_next last limit report reports one waiting (inl all) = inl (omega (arith, all))
+within_next last limit report reports one waiting (inr all) = inr (omega (arith, all))
+
+within_least : (last limit : ℕ) (reports : List Report) (waiting : List Submission) → Within last limit reports waiting → last ≤ limit
+within_least last limit reports waiting (inl all) = omega (arith, all)
+within_least last limit reports waiting (inr all) = omega (arith, all)
+
+abbrev RisesTo : (version limit : ℕ) → List Entry → Type 0
+RisesTo version limit entries = VersionsRise version entries × (last_version version entries ≤ limit)
+
+none_rise : (version last limit : ℕ) (reports : List Report) (waiting : List Submission) → version ≤ last → Within last limit reports waiting → RisesTo version limit []
+none_rise version last limit reports waiting below within = let least : last ≤ limit = within_least last limit reports waiting within in (tt, omega (arith, below, least))
+
+told_rise : (version last limit : ℕ) (reports : List Report) (waiting : List Submission) → AreVersioned last waiting → version ≤ last → Within last limit reports waiting → RisesTo version limit (map logged_as (told_first reports waiting))
+told_rise version last limit [] waiting are below within = none_rise version last limit [] waiting below within
+told_rise version last limit (Committed client v ∷ reports) [] are below within = none_rise version last limit (Committed client v ∷ reports) [] below within
+told_rise version last limit (Conflict client seen range ∷ reports) [] are below within = none_rise version last limit (Conflict client seen range ∷ reports) [] below within
+told_rise version last limit (Unknown client ∷ reports) [] are below within = none_rise version last limit (Unknown client ∷ reports) [] below within
+told_rise version last limit (Committed client v ∷ reports) (one ∷ waiting) are below within =
+    let at : one.version ≡ last + 1 = are.0 in
+    let rest = told_rise one.version (last + 1) limit reports waiting are.1 (omega (arith, at)) (within_next last limit (Committed client v) reports one waiting within) in
+    ((omega (arith, at, below), rest.0), rest.1)
+told_rise version last limit (Conflict client seen range ∷ reports) (one ∷ waiting) are below within = told_rise version (last + 1) limit reports waiting are.1 (omega (arith, below)) (within_next last limit (Conflict client seen range) reports one waiting within)
+told_rise version last limit (Unknown client ∷ reports) (one ∷ waiting) are below within = told_rise version (last + 1) limit reports waiting are.1 (omega (arith, below)) (within_next last limit (Unknown client) reports one waiting within)
+
+-- ---- what is reported
+
+start_cond : (b : Bool) (next c : ClusterState) → next.pipeline.start ≡ c.pipeline.start → (cond b next c).pipeline.start ≡ c.pipeline.start
+start_cond true next c same = same
+start_cond false next c same = refl
+
+start_is : (config : Config) (R : List CommitRequest) (past : Past) → (cluster_after config R past).pipeline.start ≡ config.start
+start_is config R [] = refl
+start_is config R ((steps.Begin client store, reply) ∷ past) = start_is config R past
+start_is config R ((steps.Perform client command, reply) ∷ past) = start_is config R past
+start_is config R ((steps.Execute client, reply) ∷ past) = start_is config R past
+start_is config R ((steps.Abandon client, reply) ∷ past) = start_is config R past
+start_is config R ((steps.Settle, reply) ∷ past) = start_is config R past
+start_is config R ((steps.Commit client, reply) ∷ past) = let c = cluster_after config R past in start_cond (is_submitted reply) (with_pipeline (with_next R c.pipeline) c) c refl ∙ start_is config R past
+start_is config R ((steps.Resolve r, reply) ∷ past) = let c = cluster_after config R past in start_cond (is_done reply) (with_pipeline (resolve r c.pipeline) c) c refl ∙ start_is config R past
+start_is config R ((steps.Log l, reply) ∷ past) = let c = cluster_after config R past in start_cond (is_done reply) (with_pipeline (append l c.pipeline) c) c refl ∙ start_is config R past
+start_is config R ((steps.Pull s, reply) ∷ past) = let c = cluster_after config R past in start_cond (is_done reply) (pull s c) c refl ∙ start_is config R past
+start_is config R ((steps.Report, reply) ∷ past) = let c = cluster_after config R past in start_cond (is_reported reply) (with_pipeline (report c.pipeline) c) c refl ∙ start_is config R past
+start_is config R ((steps.Lost, reply) ∷ past) = let c = cluster_after config R past in start_cond (is_reported reply) (with_pipeline (report c.pipeline) c) c refl ∙ start_is config R past
+
+state_start : (config : Config) (done : List Step) (replies : List Reply) (state : StepwiseState) → HasDone config done replies state → state.database.cluster.pipeline.start ≡ config.start
+state_start config done replies state has =
+    let R : List CommitRequest = state.database.cluster.pipeline.requests ++ [] in
+    sym (ap (λ (c : ClusterState). c.pipeline.start) (has.0.cluster [])) ∙ start_is config R (past_of [] done replies)
+
+-- what a step submits
+abbrev Adds : Step → Reply → Past → Type 0
+Adds step reply past = (more : List Submission) × ((xs : List Submission) → submitted_after step reply past xs ≡ xs ++ more)
+
+adds : (step : Step) (reply : Reply) (past : Past) → Adds step reply past
+adds (steps.Begin client store) reply past = ([], λ xs. sym (append-nil xs))
+adds (steps.Perform client command) reply past = ([], λ xs. sym (append-nil xs))
+adds (steps.Execute client) reply past = ([], λ xs. sym (append-nil xs))
+adds (steps.Abandon client) reply past = ([], λ xs. sym (append-nil xs))
+adds (steps.Resolve r) reply past = ([], λ xs. sym (append-nil xs))
+adds (steps.Log l) reply past = ([], λ xs. sym (append-nil xs))
+adds (steps.Pull s) reply past = ([], λ xs. sym (append-nil xs))
+adds steps.Report reply past = ([], λ xs. sym (append-nil xs))
+adds steps.Lost reply past = ([], λ xs. sym (append-nil xs))
+adds steps.Settle reply past = ([], λ xs. sym (append-nil xs))
+adds (steps.Commit client) (answers.Begun v) past = ([], λ xs. sym (append-nil xs))
+adds (steps.Commit client) answers.Done past = ([], λ xs. sym (append-nil xs))
+adds (steps.Commit client) answers.SavedNew past = ([], λ xs. sym (append-nil xs))
+adds (steps.Commit client) (answers.SavedOver cells) past = ([], λ xs. sym (append-nil xs))
+adds (steps.Commit client) (answers.Found cells) past = ([], λ xs. sym (append-nil xs))
+adds (steps.Commit client) answers.Absent past = ([], λ xs. sym (append-nil xs))
+adds (steps.Commit client) answers.Removed past = ([], λ xs. sym (append-nil xs))
+adds (steps.Commit client) (answers.Rows rows) past = ([], λ xs. sym (append-nil xs))
+adds (steps.Commit client) (answers.Planned plan) past = ([], λ xs. sym (append-nil xs))
+adds (steps.Commit client) (answers.Indexed state) past = ([], λ xs. sym (append-nil xs))
+adds (steps.Commit client) (answers.State state) past = ([], λ xs. sym (append-nil xs))
+adds (steps.Commit client) (answers.Total total) past = ([], λ xs. sym (append-nil xs))
+adds (steps.Commit client) (answers.Built records range) past = ([], λ xs. sym (append-nil xs))
+adds (steps.Commit client) answers.Finished past = ([], λ xs. sym (append-nil xs))
+adds (steps.Commit client) answers.ReadOnly past = ([], λ xs. sym (append-nil xs))
+adds (steps.Commit client) answers.Nothing past = ([], λ xs. sym (append-nil xs))
+adds (steps.Commit client) (answers.Reported reports) past = ([], λ xs. sym (append-nil xs))
+adds (steps.Commit client) (answers.Refused refusal) past = ([], λ xs. sym (append-nil xs))
+adds (steps.Commit client) (answers.Corrupt key) past = ([], λ xs. sym (append-nil xs))
+adds (steps.Commit client) answers.Stopped past = ([], λ xs. sym (append-nil xs))
+adds (steps.Commit client) (answers.Submitted v) past = (submission client v (open_of client past), λ xs. refl)
+
+-- what a step tells of is reported then
+reported_within : (R S : List CommitRequest) (p q : PipelineState) (past : Past) (step : Step) (reply : Reply) → p.start ≡ q.start → IsEven R p past → IsEven S q ((step, reply) ∷ past) →
+    Within p.reported q.reported (reports_in step reply) (drop (p.reported - p.start) (submitted_in past))
+reported_within R S p q past step reply same before after = by_count (nat_lt (length reports) (length waiting + 1)) refl
+  where
+    reports : List Report
+    reports = reports_in step reply
+
+    waiting : List Submission
+    waiting = drop (p.reported - p.start) (submitted_in past)
+
+    more : List Submission
+    more = (adds step reply past).0
+
+    left : length waiting ≡ length (submitted_in past) - (p.reported - p.start)
+    left = drop_length (p.reported - p.start) (submitted_in past)
+
+    subs_now : length (submitted_in ((step, reply) ∷ past)) ≡ length (submitted_in past) + length more
+    subs_now = ap length ((adds step reply past).1 (submitted_in past)) ∙ length-append (submitted_in past) more
+
+    rest : length (drop (length reports) (waiting_in past)) ≡ length waiting - length reports
+    rest = drop_length (length reports) (waiting_in past) ∙ ap (λ (ss : List Submission). length ss - length reports) before.waits
+
+    left_now : length (drop (q.reported - q.start) (submitted_in ((step, reply) ∷ past))) ≡ length (submitted_in ((step, reply) ∷ past)) - (q.reported - q.start)
+    left_now = drop_length (q.reported - q.start) (submitted_in ((step, reply) ∷ past))
+
+    waits_now : length (drop (q.reported - q.start) (submitted_in ((step, reply) ∷ past))) ≡ length (drop (length reports) (waiting_in past)) + length more
+    waits_now = sym (ap length after.waits) ∙ ap length ((adds step reply past).1 (drop (length reports) (waiting_in past))) ∙ length-append (drop (length reports) (waiting_in past)) more
+
+    from : p.start ≤ p.reported
+    from = before.begun
+
+    upto : p.reported ≤ p.start + length (submitted_in past)
+    upto = before.given
+
+    from_now : q.start ≤ q.reported
+    from_now = after.begun
+
+    upto_now : q.reported ≤ q.start + length (submitted_in ((step, reply) ∷ past))
+    upto_now = after.given
+
+    by_count : (b : Bool) → nat_lt (length reports) (length waiting + 1) ≡ b → Within p.reported q.reported reports waiting
+    by_count true is =
+        let few : length reports < length waiting + 1 = ltb-true (length reports) (length waiting + 1) is in
+        inl (omega (arith, few, left, subs_now, rest, left_now, waits_now, from, upto, from_now, upto_now, same))
+    by_count false is =
+        let many : length waiting + 1 ≤ length reports = ltb-false (length reports) (length waiting + 1) is in
+        inr (omega (arith, many, left, subs_now, rest, left_now, waits_now, from, upto, from_now, upto_now, same))
+
+-- ---- a step
+
+pub rising_step : (run : Run) (step : Step) (reply : Reply) (before after : StepwiseState) → HasDone run.config run.steps run.replies before → HasDone run.config (run.steps ++ step ∷ []) (run.replies ++ reply ∷ []) after → LosesNone run.steps → LosesNone (run.steps ++ step ∷ []) →
+    (entries : List Entry) → VersionsRise 0 entries → last_version 0 entries ≤ before.database.cluster.pipeline.reported →
+    VersionsRise 0 (entries ++ newly_logged (past_in run) step reply) × (last_version 0 (entries ++ newly_logged (past_in run) step reply) ≤ after.database.cluster.pipeline.reported)
+rising_step run step reply before after has has_now none none_now entries rise upto = (
+  rise_both 0 entries more rise rises.0,
+  subst (λ v. v ≤ q.reported) (sym (last_both 0 entries more)) rises.1,
+)
+  where
+    p : PipelineState
+    p = before.database.cluster.pipeline
+
+    q : PipelineState
+    q = after.database.cluster.pipeline
+
+    past : Past
+    past = past_in run
+
+    more : List Entry
+    more = newly_logged past step reply
+
+    even : IsEven (p.requests ++ []) p past
+    even = even_done run.config run.steps run.replies before has none
+
+    even_now : IsEven (q.requests ++ []) q ((step, reply) ∷ past)
+    even_now = subst (IsEven (q.requests ++ []) q) (longer_past run step reply before has) (even_done run.config (run.steps ++ step ∷ []) (run.replies ++ reply ∷ []) after has_now none_now)
+
+    same : p.start ≡ q.start
+    same = state_start run.config run.steps run.replies before has ∙ sym (state_start run.config (run.steps ++ step ∷ []) (run.replies ++ reply ∷ []) after has_now)
+
+    from : p.start ≤ p.reported
+    from = even.begun
+
+    here : p.start + (p.reported - p.start) ≡ p.reported
+    here = omega (arith, from)
+
+    waiting : List Submission
+    waiting = drop (p.reported - p.start) (submitted_in past)
+
+    rises : RisesTo (last_version 0 entries) q.reported more
+    rises = subst (λ ss. RisesTo (last_version 0 entries) q.reported (map logged_as (told_first (reports_in step reply) ss))) (sym even.waits)
+        (told_rise (last_version 0 entries) p.reported q.reported (reports_in step reply) waiting (subst (λ v. AreVersioned v waiting) here (versions_left p.start (p.reported - p.start) (submitted_in past) even.versions)) upto
+        (reported_within (p.requests ++ []) (q.requests ++ []) p q past step reply same even even_now))
+
+-- ---- an opening
+
+says_length : (some entries : List Entry) → SayTheSame some entries → length some ≡ length entries
+says_length [] [] says = refl
+says_length [] (entry ∷ entries) says = absurd says
+says_length (one ∷ some) [] says = absurd says
+says_length (one ∷ some) (entry ∷ entries) says = let (client, store, changes, rest) = says in ap suc (says_length some entries rest)
+
+filter_short : {X : Type 0} (test : X → Bool) (xs : List X) → length (filter test xs) ≤ length xs
+filter_short test [] = omega arith
+filter_short test (x ∷ xs) = by_test (filter_short test xs) (test x)
+  where
+    by_test : length (filter test xs) ≤ length xs → (b : Bool) → length (cond b (x ∷ filter test xs) (filter test xs)) ≤ suc (length xs)
+    by_test rest true = omega (arith, rest)
+    by_test rest false = omega (arith, rest)
+
+pub upto_reported : (config : Config) (first : ℕ) (entries : List Entry) (done : List Step) (replies : List Reply) (state : StepwiseState) → HasDone config done replies state → LosesNone done → SayTheSame (logged_in (past_of [] done replies)) entries →
+    config.start ≡ max first (last_version 0 entries - length entries) → last_version 0 entries ≤ state.database.cluster.pipeline.reported
+upto_reported config first entries done replies state has none says is =
+    let p = state.database.cluster.pipeline in
+    let past : Past = past_of [] done replies in
+    let even = even_done config done replies state has none in
+    let k = p.reported - p.start in
+    let kept = take k (submitted_in past) in
+    let count : length (logged_in past) ≡ length (filter (told_so p) kept) = ap length even.logs ∙ length-map (filter (told_so p) kept) logged_as in
+    let fewer : length (filter (told_so p) kept) ≤ length kept = filter_short (told_so p) kept in
+    let short : length kept ≤ k = take_short k (submitted_in past) in
+    let same : length (logged_in past) ≡ length entries = says_length (logged_in past) entries says in
+    let from : p.start ≤ p.reported = even.begun in
+    let begun : p.start ≡ config.start = state_start config done replies state has in
+    omega (arith, count, fewer, short, same, from, begun, is)

@@ -1,0 +1,145 @@
+-- Steps that are followed, logged and answered, over plain values.
+use Rattle.std.proofs.Common.{◌≡◌, ℕ, ◌+◌, ◌^◌, ◌≤◌, List, ◌++◌, length, ap, refl, sym, subst}
+use Rattle.std.specs.Prelude.{Result, Err, IsErrOf}
+use Rattle.cluster_core.specs.declared.answers.Config.{Config}
+use Rattle.command_log.specs.declared.entry.Entry.{Entry}
+use Rattle.journal.specs.declared.device.Device.{Ghosts}
+use Rattle.journal.specs.declared.device.DeviceError.TheVariants as devices
+use Rattle.journal.specs.declared.error.AppendError.{AppendError}
+use Rattle.journal.specs.declared.error.AppendError.TheVariants as appends
+use Rattle.journal.specs.Block.{StandsFor}
+use Rattle.journal.specs.Device.{LeavesOnly, Only}
+use Rattle.journal.specs.Form.{blocks}
+use Rattle.journal.specs.Journal.{IsBeforeOrAfter, entries_read}
+use Rattle.replay.specs.Logged.{last_version}
+use Rattle.replay.specs.Replaying.{AreWrittenAs, log_bytes}
+use Rattle.durable.specs.Keeping.{HasOnDisk, no_base}
+use Rattle.schedule.specs.declared.step.Step.{Step}
+use Rattle.schedule.specs.Past.{Past}
+use Rattle.schedule.specs.Stepwise.{DoesNext}
+use Rattle.logged_schedule.specs.declared.followed.Followed.{Followed}
+use Rattle.logged_schedule.specs.declared.followed.Stepped.{Stepped}
+use Rattle.logged_schedule.specs.declared.logged.Answer.{Answer}
+use Rattle.logged_schedule.specs.declared.logged.LoggedSchedule.{LoggedSchedule}
+use Rattle.logged_schedule.specs.Answers.{IsStepAnswer}
+use Rattle.logged_schedule.specs.Entries.{logged_in, newly_logged}
+use Rattle.logged_schedule.specs.Followed.{DoesFollow, IsFollowed}
+use Rattle.logged_schedule.specs.Following.{SubmitsOfClients}
+use Rattle.logged_schedule.specs.Keeping.{IsWithoutRoom, IsKeptStep, IsWithoutAnswer, KeepsRun, MayHaveLogged, SayTheSame}
+use Rattle.logged_schedule.specs.Opening.{IsOpenedAgain, IsPerformedAgain, from_version, run_again, start_before}
+use Rattle.logged_schedule.specs.Runs.{Run, done_as, past_in, told_as, with_step}
+use Rattle.logged_schedule.specs.Standing.{HasFollowed, StepsFollowed, device_with_log, schedule_of}
+use Rattle.logged_schedule.specs.Told.{stopped_by}
+use Rattle.logged_schedule.proofs.Longer.{longer_past, loses_none, submits}
+use Rattle.logged_schedule.proofs.Rising.{rising_step, upto_reported}
+use Rattle.logged_schedule.proofs.Logs.{appended_batch, leaves_batch, says_both, says_itself, written_bytes}
+
+-- ---- a step that is followed
+
+pub steps_followed : (step : Step) (before : Followed) (stepped : Stepped) → DoesNext (done_as step) stepped.reply before.schedule stepped.followed.schedule →
+    ((past : Past) → IsFollowed past before.following → SubmitsOfClients (done_as step) stepped.reply → DoesFollow past (done_as step) stepped.reply stepped.told.items stepped.followed.following) → StepsFollowed step before stepped
+steps_followed step before stepped next notes run follows =
+    let after = next run.config run.steps run.replies follows.done in
+    let of = submits run (done_as step) stepped.reply before.schedule stepped.followed.schedule follows.done after in
+    let noted = notes (past_in run) follows.follows of in (
+      record {
+        done = after;
+        follows = subst (λ past. IsFollowed past stepped.followed.following) (sym (longer_past run (done_as step) stepped.reply before.schedule follows.done)) noted.follows;
+        none_lost = loses_none run.steps step follows.none_lost;
+      },
+      noted.told_so,
+    )
+
+pub is_answer : (step : Step) (before : Followed) (stepped : Stepped) (answer : Answer) → DoesNext (done_as step) stepped.reply before.schedule stepped.followed.schedule →
+    DoesNext step (told_as step stepped.reply) before.schedule stepped.followed.schedule → StepsFollowed step before stepped →
+    answer.followed ≡ stepped.followed → answer.reply ≡ told_as step stepped.reply → AreWrittenAs (log_bytes answer.batch.items) stepped.told.items → IsStepAnswer step before answer
+is_answer step before stepped answer next told follows same is written = record {
+  reply = stepped.reply;
+  told = is;
+  next = subst (λ (f : Followed). DoesNext (done_as step) stepped.reply before.schedule f.schedule) (sym same) next;
+  answered =
+      subst (λ (f : Followed). DoesNext step answer.reply before.schedule f.schedule) (sym same)
+      (subst (λ r. DoesNext step r before.schedule stepped.followed.schedule) (sym is) told);
+  follows = λ run done. subst (HasFollowed (with_step run (done_as step) stepped.reply)) (sym same) (follows run done).0;
+  written = λ run done. subst (AreWrittenAs (log_bytes answer.batch.items)) (follows run done).1 written;
+}
+
+-- ---- a step that is logged
+
+module _ {D : Type 0} {G : Ghosts D} (seen : D → List ℕ) (may_leave : D → List ℕ → Type 0) (moment : D → ℕ) (left_since : D → ℕ → List ℕ → Type 0) where
+  pub kept_step : (run : Run) (entries : List Entry) (step : Step) (answer : Answer) (before after : LoggedSchedule D G) → KeepsRun seen may_leave run entries before → IsStepAnswer step before.followed answer → after.followed ≡ answer.followed →
+      StandsFor (seen (device_with_log after)) (entries_read (seen (device_with_log before)) ++ log_bytes answer.batch.items) → Only (seen (device_with_log after)) (may_leave (device_with_log after)) →
+      LeavesOnly moment left_since (device_with_log before) (device_with_log after) (IsBeforeOrAfter (entries_read (seen (device_with_log before))) (log_bytes answer.batch.items)) →
+      IsKeptStep seen may_leave moment left_since run entries step answer.reply before after
+  kept_step run entries step answer before after keeps is same stands durable leaves =
+      let more = newly_logged (past_in run) (done_as step) is.reply in
+      let written = is.written run keeps.done in
+      let later = is.follows run keeps.done in
+      let rising = rising_step run (done_as step) is.reply (schedule_of before) answer.followed.schedule keeps.done.done later.done keeps.done.none_lost later.none_lost entries keeps.rise keeps.upto in
+      record {
+        reply = is.reply;
+        answered = is.told;
+        keeps = record {
+          done = subst (HasFollowed (with_step run (done_as step) is.reply)) (sym same) (is.follows run keeps.done);
+          disk = appended_batch seen may_leave moment left_since entries more (log_bytes answer.batch.items) (device_with_log before) (device_with_log after) keeps.disk written stands durable;
+          says =
+              subst (λ es. SayTheSame es (entries ++ more)) (sym (ap logged_in (longer_past run (done_as step) is.reply (schedule_of before) keeps.done.done)))
+              (says_both (logged_in (past_in run)) more entries more keeps.says (says_itself more));
+          rise = rising.0;
+          upto = subst (λ (f : Followed). last_version 0 (entries ++ more) ≤ f.schedule.database.cluster.pipeline.reported) (sym same) rising.1;
+        };
+        any_moment = leaves_batch seen may_leave moment left_since entries more (log_bytes answer.batch.items) (device_with_log before) (device_with_log after) keeps.disk written leaves;
+      }
+
+  pub may_have_logged : (run : Run) (entries : List Entry) (step : Step) (answer : Answer) (before : LoggedSchedule D G) (device : D) → KeepsRun seen may_leave run entries before → IsStepAnswer step before.followed answer →
+      LeavesOnly moment left_since (device_with_log before) device (IsBeforeOrAfter (entries_read (seen (device_with_log before))) (log_bytes answer.batch.items)) → MayHaveLogged moment left_since run entries step before device
+  may_have_logged run entries step answer before device keeps is leaves = record {
+    reply = is.reply;
+    after = answer.followed.schedule;
+    next = is.next;
+    any_moment = leaves_batch seen may_leave moment left_since entries (newly_logged (past_in run) (done_as step) is.reply) (log_bytes answer.batch.items) (device_with_log before) device keeps.disk (is.written run keeps.done) leaves;
+  }
+
+  pub no_room : (run : Run) (entries : List Entry) (step : Step) (answer : Answer) (before : LoggedSchedule D G) (device : D) → KeepsRun seen may_leave run entries before → IsStepAnswer step before.followed answer → device ≡ device_with_log before →
+      2 ^ 63 ≤ length (seen (device_with_log before)) + length (blocks (log_bytes answer.batch.items)) → IsWithoutRoom seen run step before device
+  no_room run entries step answer before device keeps is same long = record {
+    reply = is.reply;
+    after = answer.followed.schedule;
+    next = is.next;
+    same = same;
+    too_long =
+        subst (λ log. 2 ^ 63 ≤ length (seen (device_with_log before)) + length (blocks log))
+        (written_bytes (log_bytes answer.batch.items) (newly_logged (past_in run) (done_as step) is.reply) (is.written run keeps.done)) long;
+  }
+
+  -- why it isn't answered
+  pub unanswered : (run : Run) (entries : List Entry) (step : Step) (answer : Answer) (before : LoggedSchedule D G) (device : D) (result : Result (Unit {0}) AppendError) (error : AppendError) → result ≡ Err error → KeepsRun seen may_leave run entries before →
+      IsStepAnswer step before.followed answer → (IsErrOf result appends.Memory → device ≡ device_with_log before) → (IsErrOf result appends.Full → device ≡ device_with_log before) →
+      (IsErrOf result appends.Full → 2 ^ 63 ≤ length (seen (device_with_log before)) + length (blocks (log_bytes answer.batch.items))) →
+      LeavesOnly moment left_since (device_with_log before) device (IsBeforeOrAfter (entries_read (seen (device_with_log before))) (log_bytes answer.batch.items)) → IsWithoutAnswer seen moment left_since run entries step (stopped_by error) before device
+  unanswered run entries step answer before device result appends.Memory at keeps is memory full room leaves = memory at
+  unanswered run entries step answer before device result appends.Full at keeps is memory full room leaves = no_room run entries step answer before device keeps is (full at) (room at)
+  unanswered run entries step answer before device result appends.Broken at keeps is memory full room leaves = may_have_logged run entries step answer before device keeps is leaves
+  unanswered run entries step answer before device result (appends.Device devices.Failed) at keeps is memory full room leaves = may_have_logged run entries step answer before device keeps is leaves
+  unanswered run entries step answer before device result (appends.Device devices.Memory) at keeps is memory full room leaves = may_have_logged run entries step answer before device keeps is leaves
+
+  -- a file that is recovered, and whose entries are performed again
+  pub reopened : (config : Config) (file : List ℕ) (log : List (List ℕ)) (logged : LoggedSchedule D G) (followed : Followed) (device : D) → StandsFor file (entries_read file) → log ≡ entries_read file → StandsFor (seen device) (entries_read file) →
+      Only (seen device) (may_leave device) → IsPerformedAgain config log followed → logged.followed ≡ followed → device_with_log logged ≡ device → IsOpenedAgain seen may_leave config file logged
+  reopened config file log logged followed device whole same stands durable again is_followed is_device =
+      let written = subst (λ l. AreWrittenAs l again.entries) same again.written in
+      record {
+        entries = again.entries;
+        had = (entries_read file, written, whole);
+        replies = again.replies;
+        keeps = record {
+          done = subst (HasFollowed (run_again (from_version (start_before config.start again.entries) config) again.entries again.replies)) (sym is_followed) again.follows;
+          disk = subst (HasOnDisk seen may_leave no_base again.entries) (sym is_device) (record { file = (entries_read file, written, stands); durable = durable });
+          says = again.says;
+          rise = again.rise;
+          upto =
+              subst (λ (f : Followed). last_version 0 again.entries ≤ f.schedule.database.cluster.pipeline.reported) (sym is_followed)
+              (upto_reported (from_version (start_before config.start again.entries) config) config.start again.entries (run_again (from_version (start_before config.start again.entries) config) again.entries again.replies).steps again.replies followed.schedule
+              again.follows.done again.follows.none_lost again.says refl);
+        };
+      }

@@ -1,0 +1,94 @@
+-- What the file of a schedule has of its run.
+use Rattle.std.specs.Prelude.{◌≡◌, ◌⊎◌, ◌<◌, ◌≤◌, ℕ, ◌+◌, ◌^◌, List, [], ◌∷◌, ◌++◌, length, map, ⊤}
+use Rattle.journal.specs.Device.{LeavesOnly}
+use Rattle.journal.specs.Form.{blocks}
+use Rattle.journal.specs.declared.device.Device.{Ghosts}
+use Rattle.command_log.specs.Form.{bytes_of_entry}
+use Rattle.command_log.specs.declared.entry.Entry.{Entry}
+use Rattle.replay.specs.Logged.{last_version}
+use Rattle.schedule.specs.declared.reply.Reply.{Reply}
+use Rattle.schedule.specs.declared.step.Step.{Step}
+use Rattle.schedule.specs.Stepwise.{DoesNext, StepwiseState}
+use Rattle.durable.specs.Keeping.{HasLogOf, HasOnDisk, no_base}
+use Rattle.logged_schedule.specs.declared.error.StepError.{StepError}
+use Rattle.logged_schedule.specs.declared.error.StepError.TheVariants as stops
+use Rattle.logged_schedule.specs.declared.logged.LoggedSchedule.{LoggedSchedule}
+use Rattle.logged_schedule.specs.Entries.{logged_in, newly_logged}
+use Rattle.logged_schedule.specs.Runs.{Run, done_as, past_in, told_as, with_step}
+use Rattle.logged_schedule.specs.Standing.{HasFollowed, device_with_log, schedule_of}
+
+-- the entries say the same of clients, stores and changes, one by one; versions and numbers aside, since a log that is
+-- performed again has its versions one after another
+abbrev pub SayTheSame : List Entry → List Entry → Type 0
+SayTheSame [] [] = ⊤
+SayTheSame (one ∷ others) (entry ∷ entries) =
+    (one.client ≡ entry.client) × (one.store ≡ entry.store) × (one.changes ≡ entry.changes)
+    × SayTheSame others entries
+SayTheSame others entries = ⊥
+
+-- the versions of entries rise, from above this one on
+abbrev pub VersionsRise : ℕ → List Entry → Type 0
+VersionsRise version [] = ⊤
+VersionsRise version (entry ∷ entries) = (version < entry.version) × VersionsRise entry.version entries
+
+-- KEEPS: a schedule has done a run; the file has the log of these entries, all of it on the disk, and they say what the
+-- run has committed; their versions rise, up to the last one that is reported at most
+pub record KeepsRun {D : Type 0} {G : Ghosts D} (seen : D → List ℕ) (may_leave : D → List ℕ → Type 0) (run : Run)
+    (entries : List Entry) (logged : LoggedSchedule D G) : Type 0 where
+  pub done : HasFollowed run logged.followed
+  pub disk : HasOnDisk seen may_leave no_base entries (device_with_log logged)
+  pub says : SayTheSame (logged_in (past_in run)) entries
+  pub rise : VersionsRise 0 entries
+  pub upto : last_version 0 entries ≤ (schedule_of logged).database.cluster.pipeline.reported
+
+-- the file has the log of these entries, with all of the others after them, or with none
+abbrev pub HasAllOrNone : List Entry → List Entry → List ℕ → Type 0
+HasAllOrNone entries others file = HasLogOf no_base file entries ⊎ HasLogOf no_base file (entries ++ others)
+
+-- a step was done after a run, with a reply of which this is told, and what it committed was logged before; a crash at
+-- any moment of it leaves the log from before, with all that the step committed or with nothing of it
+pub record IsKeptStep {D : Type 0} {G : Ghosts D} (seen : D → List ℕ) (may_leave : D → List ℕ → Type 0)
+    (moment : D → ℕ) (left_since : D → ℕ → List ℕ → Type 0) (run : Run) (entries : List Entry) (step : Step)
+    (told : Reply) (before after : LoggedSchedule D G) : Type 0 where
+  pub reply : Reply
+  pub answered : told ≡ told_as step reply
+  pub keeps :
+      KeepsRun seen may_leave (with_step run (done_as step) reply)
+      (entries ++ newly_logged (past_in run) (done_as step) reply) after
+  pub any_moment :
+      LeavesOnly moment left_since (device_with_log before) (device_with_log after)
+      (HasAllOrNone entries (newly_logged (past_in run) (done_as step) reply))
+
+-- a step was done with some reply, and isn't answered: a crash at any moment of it leaves the log from before, with all
+-- that the step committed or with nothing of it
+pub record MayHaveLogged {D : Type 0} {G : Ghosts D} (moment : D → ℕ) (left_since : D → ℕ → List ℕ → Type 0) (run : Run)
+    (entries : List Entry) (step : Step) (before : LoggedSchedule D G) (device : D) : Type 0 where
+  pub reply : Reply
+  pub after : StepwiseState
+  pub next : DoesNext (done_as step) reply (schedule_of before) after
+  pub any_moment :
+      LeavesOnly moment left_since (device_with_log before) device
+      (HasAllOrNone entries (newly_logged (past_in run) (done_as step) reply))
+
+-- a step was done with some reply, and isn't answered: the file has no room for what it committed, and nothing was
+-- written
+pub record IsWithoutRoom {D : Type 0} {G : Ghosts D} (seen : D → List ℕ) (run : Run) (step : Step)
+    (before : LoggedSchedule D G) (device : D) : Type 0 where
+  pub reply : Reply
+  pub after : StepwiseState
+  pub next : DoesNext (done_as step) reply (schedule_of before) after
+  pub same : device ≡ device_with_log before
+  pub too_long :
+      2 ^ 63
+      ≤ length (seen (device_with_log before))
+      + length (blocks (map bytes_of_entry (newly_logged (past_in run) (done_as step) reply)))
+
+-- what an unanswered step leaves: nothing was written where memory ran out, or the file had no room
+abbrev pub IsWithoutAnswer :
+    {D : Type 0} {G : Ghosts D} → (D → List ℕ) → (D → ℕ) → (D → ℕ → List ℕ → Type 0) → Run → List Entry → Step →
+    StepError → LoggedSchedule D G → D → Type 0
+IsWithoutAnswer seen moment left_since run entries step stops.Memory before device = device ≡ device_with_log before
+IsWithoutAnswer seen moment left_since run entries step stops.Full before device =
+    IsWithoutRoom seen run step before device
+IsWithoutAnswer seen moment left_since run entries step error before device =
+    MayHaveLogged moment left_since run entries step before device

@@ -1,0 +1,28 @@
+-- What holds of all that is logged.
+use Rattle.std.specs.Prelude.{◌≡◌, List, [], map}
+use Rattle.cluster_core.specs.declared.answers.Config.{Config}
+use Rattle.cluster_core.specs.History as histories
+use Rattle.schedule.specs.declared.reply.Reply.{Reply}
+use Rattle.schedule.specs.declared.step.Step.{Step}
+use Rattle.schedule.specs.Contract.{past_of}
+use Rattle.schedule.specs.Past.{Submission, submitted_in}
+use Rattle.schedule.specs.Standing.{listed}
+use Rattle.schedule.specs.Stepwise.{HasDone, StepwiseState}
+use Rattle.replay.specs.Histories.{TellsOfCommit}
+use Rattle.logged_schedule.specs.Entries.{logged_as, logged_in}
+use Rattle.logged_schedule.specs.Runs.{LosesNone}
+
+-- the entry of a submission tells of what is committed at its version, where that was this submission
+abbrev pub EntriesTell : Type 0
+EntriesTell =
+    (one : Submission) (committed : histories.Entry) → committed.version ≡ one.version →
+    TellsOfCommit one.transaction committed (logged_as one)
+
+-- LOGGED: whatever steps a schedule has done, none of whose reports is lost: the entries that were told are just those
+-- of the transactions that are listed as committed, in the order of versions
+abbrev pub LogsCommits : Type 0
+LogsCommits =
+    (config : Config) (done : List Step) (replies : List Reply) (state : StepwiseState) →
+    HasDone config done replies state → LosesNone done →
+    (let past = past_of [] done replies in
+    logged_in past ≡ map logged_as (listed state.database.cluster.pipeline (submitted_in past)))

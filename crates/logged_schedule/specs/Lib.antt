@@ -1,0 +1,12 @@
+pub mod Entries
+pub mod Runs
+pub mod Following
+pub mod Followed
+pub mod Told
+pub mod Refusals
+pub mod Standing
+pub mod Answers
+pub mod Keeping
+pub mod Opening
+pub mod Performing
+pub mod Laws

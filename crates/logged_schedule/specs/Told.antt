@@ -1,0 +1,30 @@
+-- How errors of the crates below are told.
+use Rattle.std.specs.declared.alloc.AllocError.{AllocError}
+use Rattle.journal.specs.declared.device.DeviceError.TheVariants as device
+use Rattle.journal.specs.declared.error.AppendError.{AppendError}
+use Rattle.journal.specs.declared.error.AppendError.TheVariants as append
+use Rattle.journal.specs.declared.error.RecoverError.{RecoverError}
+use Rattle.journal.specs.declared.error.RecoverError.TheVariants as recovers
+use Rattle.schedule.specs.declared.transcript.ScheduleError.{ScheduleError}
+use Rattle.schedule.specs.declared.transcript.ScheduleError.TheVariants as schedules
+use Rattle.logged_schedule.specs.declared.error.OpenError.{OpenError}
+use Rattle.logged_schedule.specs.declared.error.OpenError.TheVariants as opens
+use Rattle.logged_schedule.specs.declared.error.StepError.{StepError}
+use Rattle.logged_schedule.specs.declared.error.StepError.TheVariants as stops
+
+abbrev pub opening_error : RecoverError AllocError → OpenError
+opening_error recovers.Memory = opens.Memory
+opening_error recovers.Failed = opens.Failed
+opening_error (recovers.Damage at) = opens.Damage at
+opening_error (recovers.Refused refusal) = opens.Memory
+
+abbrev pub schedule_error : ScheduleError → OpenError
+schedule_error schedules.Memory = opens.Memory
+schedule_error (schedules.Config why) = opens.Config why
+
+abbrev pub stopped_by : AppendError → StepError
+stopped_by append.Memory = stops.Memory
+stopped_by append.Full = stops.Full
+stopped_by append.Broken = stops.Unknown
+stopped_by (append.Device device.Failed) = stops.Unknown
+stopped_by (append.Device device.Memory) = stops.Starved

@@ -1,0 +1,123 @@
+// Why a schedule isn't opened from its log, and why it doesn't go on.
+ghost use Rattle.std.specs.Prelude.{◌≡◌};
+ghost use Rattle.logged_schedule.specs.declared.error.OpenError.TheVariants as opens;
+ghost use Rattle.logged_schedule.specs.declared.error.StepError.TheVariants as stops;
+ghost use Rattle.logged_schedule.specs.Told.{opening_error, schedule_error, stopped_by};
+
+use cluster_core::ConfigError;
+use journal::{AppendError, DeviceError, RecoverError};
+use replay::ReplayError;
+use schedule::ScheduleError;
+use std::alloc::AllocError;
+use thiserror::Error;
+
+/// Why a schedule isn't opened. Places count the entries of the log, from 0.
+#[derive(Debug, Drop, Error)]
+pub enum OpenError {
+    /// Memory ran out.
+    #[error("out of memory")]
+    Memory,
+    /// There is no database of this configuration.
+    #[error("bad config {0:?}")]
+    Config(ConfigError),
+    /// The device failed.
+    #[error("the device failed")]
+    Failed,
+    /// The log is damaged from this byte on. It keeps each of its bytes.
+    #[error("the log is damaged from byte {0} on")]
+    Damage(usize),
+    /// What is logged isn't what a schedule logs.
+    #[error("{0}")]
+    Unreplayed(ReplayError),
+    /// The entry at this place is of a client that there isn't.
+    #[error("entry {0} is of no client")]
+    NoSuchClient(usize),
+    /// The entry at this place, performed again, isn't committed with just its changes.
+    #[error("entry {0} isn't committed again")]
+    NotCommitted(usize),
+}
+
+impl From<AllocError> for OpenError {
+    ghost from_gives = { λ _ error. error ≡ opens.Memory };
+
+    fn from(_error: AllocError) -> OpenError {
+        OpenError::Memory
+    }
+}
+
+impl From<RecoverError<AllocError>> for OpenError {
+    ghost from_gives = { λ error made. made ≡ opening_error error };
+
+    fn from(error: RecoverError<AllocError>) -> OpenError {
+        match error {
+            RecoverError::Memory | RecoverError::Refused(_) => OpenError::Memory,
+            RecoverError::Failed => OpenError::Failed,
+            RecoverError::Damage(at) => OpenError::Damage(at),
+        }
+    }
+}
+
+impl From<ScheduleError> for OpenError {
+    ghost from_gives = { λ error made. made ≡ schedule_error error };
+
+    fn from(error: ScheduleError) -> OpenError {
+        match error {
+            ScheduleError::Memory => OpenError::Memory,
+            ScheduleError::Config(why) => OpenError::Config(why),
+        }
+    }
+}
+
+/// A device whose log wasn't opened.
+#[derive(Drop)]
+pub struct Unopened<D> {
+    pub device: D,
+    pub error: OpenError,
+}
+
+/// Why a step isn't answered. The schedule has ended then, and is opened anew from its log.
+#[derive(Clone, Copy, Debug, PartialEq, Eq, Error)]
+pub enum StepError {
+    /// Memory ran out. Nothing was logged.
+    #[error("out of memory")]
+    Memory,
+    /// The log would get longer than a file may be. Nothing was logged.
+    #[error("the log is full")]
+    Full,
+    /// The device failed: the log has what the step committed, or nothing of it.
+    #[error("the log can't be written: what is committed last may be in it or not")]
+    Unknown,
+    /// Memory ran out in the device, as it does in none that is a file: the log has what the step
+    /// committed, or nothing of it.
+    #[error("out of memory in the log: what is committed last may be in it or not")]
+    Starved,
+}
+
+impl From<AllocError> for StepError {
+    ghost from_gives = { λ _ error. error ≡ stops.Memory };
+
+    fn from(_error: AllocError) -> StepError {
+        StepError::Memory
+    }
+}
+
+impl From<AppendError> for StepError {
+    ghost from_gives = { λ error made. made ≡ stopped_by error };
+
+    fn from(error: AppendError) -> StepError {
+        match error {
+            AppendError::Memory => StepError::Memory,
+            AppendError::Full => StepError::Full,
+            AppendError::Broken | AppendError::Device(DeviceError::Failed) => StepError::Unknown,
+            AppendError::Device(DeviceError::Memory) => StepError::Starved,
+        }
+    }
+}
+
+/// A schedule that has ended, since a step isn't answered.
+#[derive(Drop)]
+pub struct Stopped<D> {
+    /// What has the log, from which it is opened anew.
+    pub device: D,
+    pub error: StepError,
+}

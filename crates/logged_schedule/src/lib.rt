@@ -1,0 +1,16 @@
+//! A schedule whose commits are in a log on a disk before they are told, and performed again as
+//! steps where it is opened.
+#![tactic(auto)]
+
+mod again;
+mod error;
+mod followed;
+mod following;
+mod laws;
+mod logged;
+mod opening;
+
+pub use error::{OpenError, StepError, Stopped, Unopened};
+pub use laws::{commits_are_logged, entries_tell_of_commits};
+pub use logged::LoggedSchedule;
+pub use opening::open;
