@@ -34,8 +34,12 @@ pub(crate) fn laws_of(cluster: &Cluster)
 }
 
 impl Database {
-    // The database at the start.
-    pub(crate) fn new(alloc: Global, config: &Config) -> Result<Database, ConfigError>
+    // The database at the start. Its transactions are listed as bytes where the list is wanted whole.
+    pub(crate) fn new(
+        alloc: Global,
+        config: &Config,
+        is_whole: bool,
+    ) -> Result<Database, ConfigError>
         ensures made { IfOk result (λ database. IsFirst config.now database) }
         ensures allowed { OnOk result (IsNone (config_refusal config.now)) }
         ensures refused { IfErr result (λ error.
@@ -47,7 +51,7 @@ impl Database {
             cluster,
             transactions,
             unreported: VecDeque::new(alloc),
-            commits: CommitLog::new(alloc),
+            commits: CommitLog::new(alloc, is_whole),
         })
     }
 }

@@ -20,26 +20,27 @@ use cluster_core::{Cluster, Config};
 use std::alloc::{AllocError, Global};
 use std::marker::Model;
 
-/// A schedule after the steps that were done so far. It keeps no list of committed transactions, and
-/// of the requests no more bytes than a role or a server may still ask for, so that its memory is
-/// that of the database, of its window and of what is open.
-pub struct Schedule {
+// What a schedule has.
+#[derive(Drop)]
+struct Parts {
     database: Database,
     kept: KeptPlans,
     known: Known,
 }
 
+/// A schedule after the steps that were done so far. It keeps no list of committed transactions, and
+/// of the requests no more bytes than a role or a server may still ask for, so that its memory is
+/// that of the database, of its window and of what is open.
+pub struct Schedule {
+    // Boxed, since a schedule goes into each step and comes out of it by value.
+    parts: Box<Parts>,
+}
+
 // Written out, so that no proof of a caller has to take the database apart where one is dropped.
 impl Drop for Schedule {
     fn drop(self) {
-        let Schedule {
-            database,
-            kept,
-            known,
-        } = self;
-        drop(database);
-        drop(kept);
-        drop(known);
+        let Schedule { parts } = self;
+        drop(parts);
     }
 }
 
@@ -53,18 +54,17 @@ impl Model for Schedule {
 
     ghost coded = { Prim.hlevel (codes, command.the_row.coded, plan.the_row.coded) };
 
-    ghost view = { λ s. stepwise_state s.database s.kept.plans.items };
+    ghost view = { λ s. stepwise_state s.parts.value.database s.parts.value.kept.plans.items };
 
-    ghost invariant = { λ s. IsReached s.database s.kept.plans.items };
+    ghost invariant = { λ s.
+        IsReached s.parts.value.database s.parts.value.kept.plans.items };
 }
 
 impl Database {
-    // Lets go the transactions that are listed, since whoever has steps one by one isn't given the
-    // list, and the bytes of the requests of which nobody asks again.
+    // Lets go the bytes of the requests of which nobody asks again.
     fn let_go(&mut self)
         ensures { self.new ≡ record self.old { cluster = forget self.old.cluster } }
     {
-        self.commits.let_go();
         self.cluster.forget();
     }
 }
@@ -77,35 +77,37 @@ impl Schedule {
         ensures refused { IfErr result (λ error. (error ≡ ScheduleError.Memory)
             ⊎ ((why : ConfigRefusal) × (error ≡ ScheduleError.Config why) × (config_refusal config.now ≡ Some why))) }
     {
-        let database = start(alloc, config)?;
+        let database = start(alloc, config, false)?;
         let kept = match KeptPlans::new(alloc) {
             Ok(kept) => kept,
             Err(AllocError) => return Err(ScheduleError::Memory),
         };
-        Ok(Schedule {
+        let known = Known::new();
+        let parts = Parts {
             database,
             kept,
-            known: Known::new(),
-        })
+            known,
+        };
+        match Box::new(alloc, parts) {
+            Ok(parts) => Ok(Schedule { parts }),
+            Err(_) => Err(ScheduleError::Memory),
+        }
     }
 
     /// Does one step more, and answers its reply. Where memory runs out the schedule has ended.
     pub fn step(self, alloc: Global, step: &Step) -> Result<(Schedule, Reply), AllocError>
         ensures { IfOk result (λ done. DoesNext step.now done.1 self done.0) }
     {
-        let Schedule {
-            mut database,
-            mut kept,
-            mut known,
-        } = self;
-        let reply = database.step(alloc, &kept, &mut known, step)?;
-        kept.keep(step, &reply)?;
-        database.let_go();
-        let longer = Schedule {
+        let Schedule { mut parts } = self;
+        let Parts {
             database,
             kept,
             known,
-        };
+        } = &mut *parts;
+        let reply = database.step(alloc, kept, known, step)?;
+        kept.keep(step, &reply)?;
+        database.let_go();
+        let longer = Schedule { parts };
         Ok((longer, reply))
     }
 
@@ -119,7 +121,8 @@ impl Schedule {
         ensures exact { IsSoFar IsExactRun self.now }
         ensures headline { IsSoFar (λ _. IsHeadline) self.now }
     {
-        laws_of(&self.database.cluster);
-        &self.database.cluster
+        let parts = self.parts.as_ref();
+        laws_of(&parts.database.cluster);
+        &parts.database.cluster
     }
 }
