@@ -32,7 +32,7 @@ any_gate entries gate stands = elim (cases_eq gate 1) [
 ]
 
 -- the first byte is torn
-torn_first : (entries : List (List ℕ)) (c : List ℕ) → StandsFor (at_rest entries) entries → Torn 0 1 (at_rest entries) c → IsBeforeOrNone entries c
+torn_first : (entries : List (List ℕ)) (c : List ℕ) → StandsFor (at_rest entries) entries → Torn 0 (0 ∷ []) (at_rest entries) c → IsBeforeOrNone entries c
 torn_first entries [] stands torn = absurd (omega (arith, torn.no_shorter, length-append (blocks entries) (0 ∷ [])))
 torn_first entries (gate ∷ rest) stands torn = subst (λ (l : List ℕ). IsBeforeOrNone entries (gate ∷ l)) (sym torn.after) (any_gate entries gate stands)
 
@@ -65,10 +65,10 @@ module _ {D : Type 0} (seen : D → List ℕ) (may_leave : D → List ℕ → Ty
   left_at_first : (c : List ℕ) → may_leave old c → IsLeft c
   left_at_first c left = inl (subst (λ f. StandsFor f entries) (sym (s.durable c left)) (sound seen may_leave old end s))
 
-  left_by_gate : (one : D) → LeftBy (Torn 0 1) (may_leave old) (may_leave one) → (c : List ℕ) → may_leave one c → IsLeft c
+  left_by_gate : (one : D) → LeftBy (Torn 0 (0 ∷ [])) (may_leave old) (may_leave one) → (c : List ℕ) → may_leave one c → IsLeft c
   left_by_gate one crash c left =
       let from = crash c left in
-      torn_first entries c stands (subst (λ f. Torn 0 1 f c) (s.durable from.0 from.1 ∙ s.file) from.2)
+      torn_first entries c stands (subst (λ f. Torn 0 (0 ∷ []) f c) (s.durable from.0 from.1 ∙ s.file) from.2)
 
   -- the gate is shut
   pub shut_is : (one : D) → HasWritten (seen old) 0 (0 ∷ []) (seen one) → seen one ≡ 0 ∷ drop 1 (seen old)
@@ -80,7 +80,7 @@ module _ {D : Type 0} (seen : D → List ℕ) (may_leave : D → List ℕ → Ty
       inr (cut_behind (drop 1 (seen old)) c (subst (λ f. Cut 1 f c) (only from.0 from.1 ∙ shut_is one holds) from.2))
 
   module _ (moment : D → ℕ) (left_since : D → ℕ → List ℕ → Type 0) (only_now : (file : D) (c : List ℕ) → left_since file (moment file) c → may_leave file c) where
-    pub run_shut : (one : D) → LeftBy (Torn 0 1) (may_leave old) (may_leave one) → Elapses (moment old) (moment one) (left_since old) (left_since one) (may_leave one) → Run may_leave moment left_since IsLeft old one
+    pub run_shut : (one : D) → LeftBy (Torn 0 (0 ∷ [])) (may_leave old) (may_leave one) → Elapses (moment old) (moment one) (left_since old) (left_since one) (may_leave one) → Run may_leave moment left_since IsLeft old one
     run_shut one crash time =
         calls may_leave moment left_since IsLeft old old one (begins may_leave moment left_since IsLeft old only_now left_at_first) time (left_by_gate one crash)
 

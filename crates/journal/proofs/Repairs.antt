@@ -61,9 +61,9 @@ module _ (file : List ℕ) (end : ℕ) (e : EntriesEndAt file end) (small : leng
       subst (λ f. StandsFor f entries) (sym is) (stands_end entries (drop end c) size (end_is _ ends))
 
   -- one byte behind the blocks is no block
-  pub torn_end : (c : List ℕ) → Torn end 1 (blocks entries) c → StandsFor c entries
+  pub torn_end : (c : List ℕ) → Torn end (0 ∷ []) (blocks entries) c → StandsFor c entries
   torn_end c torn =
-      let front : take end c ≡ blocks entries = before_at end 1 (blocks entries) c torn (omega (arith, e.place)) ∙ take_all end (blocks entries) (omega (arith, e.place)) in
+      let front : take end c ≡ blocks entries = before_at end (0 ∷ []) (blocks entries) c torn (omega (arith, e.place)) ∙ take_all end (blocks entries) (omega (arith, e.place)) in
       let is : c ≡ blocks entries ++ drop end c = sym (take-append-drop end c) ∙ ap (λ (l : List ℕ). l ++ drop end c) front in
       let few : length (drop end c) ≤ 1 = omega (arith, length-drop end c, e.place, torn.no_longer) in
       subst (λ f. StandsFor f entries) (sym is) (stands_end entries (drop end c) size (end_is _ (short_is_end (drop end c) few)))
@@ -82,10 +82,10 @@ module _ (file : List ℕ) (end : ℕ) (e : EntriesEndAt file end) (small : leng
       let from = follows c left in
       cut_keeps c (subst (λ f. Cut end f c) (only from.0 from.1) from.2)
 
-  pub left_by_gate : (cut : List ℕ) (old new : List ℕ → Type 0) → cut ≡ take end file → Only cut old → LeftBy (Torn end 1) old new → (c : List ℕ) → new c → StandsFor c entries
+  pub left_by_gate : (cut : List ℕ) (old new : List ℕ → Type 0) → cut ≡ take end file → Only cut old → LeftBy (Torn end (0 ∷ [])) old new → (c : List ℕ) → new c → StandsFor c entries
   left_by_gate cut old new is only follows c left =
       let from = follows c left in
-      torn_end c (subst (λ f. Torn end 1 f c) (only from.0 from.1 ∙ is ∙ cut_done) from.2)
+      torn_end c (subst (λ f. Torn end (0 ∷ []) f c) (only from.0 from.1 ∙ is ∙ cut_done) from.2)
 
   pub closed_is : (cut c : List ℕ) → cut ≡ take end file → HasWritten cut end (0 ∷ []) c → c ≡ at_rest entries
   closed_is cut c is holds = written_end c (subst (λ f. HasWritten f end (0 ∷ []) c) (is ∙ cut_done) holds)
@@ -101,7 +101,7 @@ module _ {D : Type 0} (seen : D → List ℕ) (may_leave : D → List ℕ → Ty
       calls may_leave moment left_since Stands old old one (begins may_leave moment left_since Stands old only_now (left_by_none (seen old) end e small (may_leave old) only)) time
       (left_by_cut (seen old) end e small (may_leave old) (may_leave one) only crash)
 
-  pub run_shut : (one two three : D) → Run may_leave moment left_since Stands old two → seen one ≡ take end (seen old) → Only (seen one) (may_leave two) → LeftBy (Torn end 1) (may_leave two) (may_leave three)
+  pub run_shut : (one two three : D) → Run may_leave moment left_since Stands old two → seen one ≡ take end (seen old) → Only (seen one) (may_leave two) → LeftBy (Torn end (0 ∷ [])) (may_leave two) (may_leave three)
       → Elapses (moment two) (moment three) (left_since two) (left_since three) (may_leave three) → Run may_leave moment left_since Stands old three
   run_shut one two three run is kept crash time =
       calls may_leave moment left_since Stands old two three run time (left_by_gate (seen old) end e small (seen one) (may_leave two) (may_leave three) is kept crash)
