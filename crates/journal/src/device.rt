@@ -72,8 +72,8 @@ pub trait Device {
             (left_since self.old) (left_since self.new) (may_leave self.new) }
         ensures cause { HasCause (faults self.old) (faults self.new) result };
 
-    /// Writes over what is there, and past the end. Until a sync, a crash may leave each byte in the
-    /// range as it was or as it is written, and any bytes past the end that the file has on the
+    /// Writes over what is there, and past the end. Until a sync, a crash may leave each byte in
+    /// the range as it was or as it is written, and any bytes past the end that the file has on the
     /// disk.
     fn write_at(&mut self, at: usize, bytes: &[u8]) -> Result<(), DeviceError>
         requires { at ≤ length (seen self.old) }
