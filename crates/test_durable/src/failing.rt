@@ -12,7 +12,7 @@ static TORN: [usize; 4] = [0, 20, 60, 1000];
 
 /// How many calls of the device a run makes: its opening, two for the room that it writes ahead,
 /// and two for each commit.
-const CALLS: usize = 2 * COUNT + 8;
+const CALLS: usize = 2 * COUNT + 16;
 
 /// Commits the run's transactions from this place on, and tells how many are acknowledged.
 fn committed<D: Device>(alloc: Global, db: &mut Durable<D>, from: usize) -> Result<usize, Fail> {
