@@ -1,4 +1,4 @@
-"""A database in a folder of which eight clients' transactions are open together, whose program is killed again and again.
+"""A database in a folder in which eight clients have transactions open at once, killed again and again.
 
 Each transaction saves two records under an index, a count and a sum. After each kill it is there whole or not at all,
 it is there where it was told to be committed, no index has more or less than the records, and no total. A copy of the
@@ -11,7 +11,7 @@ import shutil
 import subprocess
 import time
 from collections import Counter
-from crashes import bytes_in, log_of, put, ran
+from crashes import log_of, put, ran, written
 
 CLIENTS, SHOPS, KILLS, CUTS = 8, 5, 200, 40
 # the most rounds of the eight clients that are told before a kill, and the most seconds from there to it
@@ -52,7 +52,8 @@ def told_clients(lines):
 
 
 def killed_once(program, data, first, chosen):
-    """Kills a shell in the midst of a round, after some others. The transactions that were told, and the next number."""
+    """Kills a shell in the midst of a round, after some others. The transactions that were told, and the number of the
+    next one."""
     process = subprocess.Popen([program, "shell", "--data", data], stdin=subprocess.PIPE, stdout=subprocess.PIPE)
     told, most = [], first + CLIENTS * chosen.randrange(ROUNDS + 1)
     while first < most:
@@ -120,15 +121,14 @@ def killed_fault(program, data, chosen):
 
 def cut_fault(program, data, made, folder, chosen):
     """What is wrong with a copy of its file that is cut short at random places, behind its first bytes, or None."""
-    whole = bytes_in(log_of(data))
-    end = len(whole.rstrip(b"\0"))
+    whole = written(log_of(data))
     order, fault = committed_in(program, data)
     for number in range(CUTS):
         if fault:
             return f"cut {number}: {fault}"
         copy = os.path.join(folder, "cut")
         os.makedirs(copy)
-        put(log_of(copy), whole[:chosen.randrange(made, end)])
+        put(log_of(copy), whole[:chosen.randrange(made, len(whole))])
         there, fault = found_in(program, copy)
         if not fault and there != set(order[:len(there)]):
             fault = f"{len(there)} are there, which aren't the first ones"
@@ -140,7 +140,7 @@ def kill_faults(program, folder):
     """What each case shows, and what is wrong with it, or None."""
     data, chosen = os.path.join(folder, "clients"), random.Random(SEED)
     status, output, _ = ran(program, ["shell", "--data", data], MADE)
-    made = len(bytes_in(log_of(data)).rstrip(b"\0")) if status == 0 else 0
+    made = len(written(log_of(data))) if status == 0 else 0
     fault = killed_fault(program, data, chosen) if made else f"it isn't made: {status} {output!r}"
     yield "eight clients whose shell is killed", fault
     yield "the file of eight clients, cut short", fault or cut_fault(program, data, made, folder, chosen)
