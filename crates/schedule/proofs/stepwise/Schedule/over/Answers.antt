@@ -1,0 +1,22 @@
+use Rattle.std.proofs.Common.{[]}
+use Rattle.std.specs.FinMap.{from_entries}
+use Rattle.cluster_core.specs.Configuration.{first_cluster_over}
+use Rattle.schedule.specs.Stepwise.{whole_database}
+use Rattle.schedule.proofs.Forgotten.{first_forgets, first_whole}
+use Rattle.schedule.proofs.RunSteps.{first_run}
+use Rattle.schedule.proofs.stepwise.Schedule.over.Goals as goal
+
+pub invariant_of-result : goal.invariant_of-result
+invariant_of-result c =
+    let base = from_entries c.args.pairs.items in
+    let config = c.args.config.now in
+    let database = c.in_ok-database.database in
+    let first = c.in_ok-database.ensures.made in
+    record {
+      forgotten = first_forgets base config database first;
+      held = λ yes. absurd (cc);
+      first = first_cluster_over base config;
+      steps = [];
+      replies = [];
+      done = (first_run base config (whole_database database) (first_whole base config database first), c.in-Ok.ensures);
+    }
