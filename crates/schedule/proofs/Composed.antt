@@ -27,7 +27,7 @@ use Rattle.schedule.specs.Past.{Open, Submission, accepted}
 use Rattle.schedule.specs.Holds.{HoldsAll, Stands, Stores}
 use Rattle.schedule.specs.Reach.{opened_in, reach}
 use Rattle.schedule.specs.Performed.{IsServed, IsReadRefusal, IsPerformed}
-use Rattle.schedule.specs.Commits.{committed_over, is_of_upto, view}
+use Rattle.schedule.specs.Commits.{committed_over, is_of_upto, view_over}
 use Rattle.schedule.specs.Standing.{is_told, is_listed, listed, commit_entry, commits_of}
 use Rattle.schedule.specs.Contract.{EachRequest, HoldsCommitted, HoldsOver}
 use Rattle.schedule.specs.Exact.{commands_written, AreReads, IsExactReply, IsExactRequest, IsSerial, IsSerialAt}
@@ -262,7 +262,7 @@ module _ (base : Map) (p : PipelineState) (subs : List Submission) where
         record { added = ranges; each = have; are = are_these }
 
     -- what it sees at its read version is its store, or none
-    pub open_sees : (open_now : Open) (request : CommitRequest) → IsOpenTransaction maps p.reported open_now request → Stands open_now.store (seen request (maps open_now.read_version)) (view before (commits_of p subs) open_now)
+    pub open_sees : (open_now : Open) (request : CommitRequest) → IsOpenTransaction maps p.reported open_now request → Stands open_now.store (seen request (maps open_now.read_version)) (view_over before (commits_of p subs) open_now)
     open_sees open_now request is =
         subst (Stands open_now.store (seen request (maps open_now.read_version))) (attempts_effects (committed_over before open_now.store (commits_of p subs) open_now.read_version) open_now.attempts)
         (done_serve open_now.store maps open_now.attempts (fresh_request open_now.read_version) request is.done (maps open_now.read_version) (committed_over before open_now.store (commits_of p subs) open_now.read_version)
@@ -295,17 +295,17 @@ module _ (base : Map) (p : PipelineState) (subs : List Submission) where
     pub performed_right : (open_now : Open) (request new : CommitRequest) (refuses : ℕ → KeyRange → Rattle.kv_core.specs.declared.snapshot.ReadError.ReadError → Type 0) (command : Command) (answer : Reply) →
         IsOpenTransaction maps p.reported open_now request → IsPerformed open_now.store maps (refuses request.read_version) command answer request new →
         IsServed open_now.store (after_all (commands_written open_now.store (maps open_now.read_version) (committed_over before open_now.store (commits_of p subs) open_now.read_version) (accepted open_now.attempts)) (maps open_now.read_version))
-        (commands_written open_now.store (maps open_now.read_version) (committed_over before open_now.store (commits_of p subs) open_now.read_version) (accepted open_now.attempts)) (view before (commits_of p subs) open_now) command answer
-        ⊎ IsReadRefusal (refuses open_now.read_version) (reach open_now.store (opened_in open_now.store (view before (commits_of p subs) open_now)) command
+        (commands_written open_now.store (maps open_now.read_version) (committed_over before open_now.store (commits_of p subs) open_now.read_version) (accepted open_now.attempts)) (view_over before (commits_of p subs) open_now) command answer
+        ⊎ IsReadRefusal (refuses open_now.read_version) (reach open_now.store (opened_in open_now.store (view_over before (commits_of p subs) open_now)) command
         (after_all (commands_written open_now.store (maps open_now.read_version) (committed_over before open_now.store (commits_of p subs) open_now.read_version) (accepted open_now.attempts)) (maps open_now.read_version))) answer
     performed_right open_now request new refuses command answer is performed =
         let same : maps request.read_version ≡ maps open_now.read_version = ap maps is.at in
         let over = performed.ran.over (maps open_now.read_version) (λ key h. ap (λ m. get m key) same) in
-        let at = over.1 (view before (commits_of p subs) open_now) (open_sees open_now request is) in
+        let at = over.1 (view_over before (commits_of p subs) open_now) (open_sees open_now request is) in
         elim at.right [
-          | inl served ↦ inl (subst (λ written. IsServed open_now.store (after_all written (maps open_now.read_version)) written (view before (commits_of p subs) open_now) command answer) (open_writes open_now request is) served)
-          | inr refused ↦ inr (subst (λ written. IsReadRefusal (refuses open_now.read_version) (reach open_now.store (opened_in open_now.store (view before (commits_of p subs) open_now)) command (after_all written (maps open_now.read_version))) answer) (open_writes open_now request is)
-              (subst (λ v. IsReadRefusal (refuses v) (reach open_now.store (opened_in open_now.store (view before (commits_of p subs) open_now)) command (seen request (maps open_now.read_version))) answer) is.at refused))
+          | inl served ↦ inl (subst (λ written. IsServed open_now.store (after_all written (maps open_now.read_version)) written (view_over before (commits_of p subs) open_now) command answer) (open_writes open_now request is) served)
+          | inr refused ↦ inr (subst (λ written. IsReadRefusal (refuses open_now.read_version) (reach open_now.store (opened_in open_now.store (view_over before (commits_of p subs) open_now)) command (after_all written (maps open_now.read_version))) answer) (open_writes open_now request is)
+              (subst (λ v. IsReadRefusal (refuses v) (reach open_now.store (opened_in open_now.store (view_over before (commits_of p subs) open_now)) command (seen request (maps open_now.read_version))) answer) is.at refused))
         ]
 
 -- ---- as the clauses of a schedule say it
@@ -321,7 +321,7 @@ module _ (c : ClusterState) (before : Stores) (held : HoldsAll c.base before) (s
   -- what an open transaction sees at its read version is a store, or none
   pub open_sees_serial : (open_now : Open) (request : CommitRequest) → IsOpenTransaction (database_at c) c.pipeline.reported open_now request →
       (serial : Serial) × Stands open_now.store (seen request (database_at c open_now.read_version)) serial
-  open_sees_serial open_now request is = (view before (commits_of c.pipeline subs) open_now, open_sees c.base c.pipeline subs before held legal are open_now request is)
+  open_sees_serial open_now request is = (view_over before (commits_of c.pipeline subs) open_now, open_sees c.base c.pipeline subs before held legal are open_now request is)
 
   pub holds_all : HoldsCommitted before c (commits_of c.pipeline subs)
   holds_all version from upto = holds_committed c.base c.pipeline subs before held legal are version upto

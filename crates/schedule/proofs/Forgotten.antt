@@ -17,7 +17,7 @@ use Rattle.schedule.specs.declared.step.Step.{Step}
 use Rattle.schedule.specs.declared.step.Step.TheVariants.{Begin, Perform, Execute, Commit, Abandon, Resolve, Log, Pull, Report, Lost, Settle}
 use Rattle.schedule.specs.declared.reply.Reply.{Reply}
 use Rattle.schedule.specs.declared.database.Database.{Database}
-use Rattle.schedule.specs.Commits.{committed_over, view}
+use Rattle.schedule.specs.Commits.{committed_over, view_over}
 use Rattle.schedule.specs.Holds.{HoldsAll, Stores}
 use Rattle.schedule.specs.Contract.{CommandRelation, IsReplyBy, client_of, report_to, reports_of, reports_reply}
 use Rattle.schedule.specs.Exact.{IsReplyTo, commands_written}
@@ -51,7 +51,7 @@ abbrev ExactUnder : TierState → CommandRelation
 ExactUnder tier c commits open_now command reply =
     (before : Stores) → HoldsAll c.base before →
     (let number = open_now.store in
-    let seen = view before commits open_now in
+    let seen = view_over before commits open_now in
     let at_read = database_at c open_now.read_version in
     let written = commands_written number at_read (committed_over before number commits open_now.read_version) (accepted open_now.attempts) in
     IsServed number (after_all written at_read) written seen command reply ⊎ IsReadRefusal (λ range. MayRefuse tier range open_now.read_version) (reach number (opened_in number seen) command (after_all written at_read)) reply)

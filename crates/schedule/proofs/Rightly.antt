@@ -43,7 +43,7 @@ use Rattle.schedule.specs.Serve.{IsMeant, IsReply, IsReplyWith, effect, serial_l
 use Rattle.schedule.specs.Past.{Attempt, Open, Past, Submission, accepted, is_accepted, kept_plan, open_of, submitted_in}
 use Rattle.schedule.specs.Performed.{IsLimited, IsRefusalAmong, IsServed}
 use Rattle.schedule.specs.Holds.{HoldsAll, Stores}
-use Rattle.schedule.specs.Commits.{committed_over, view}
+use Rattle.schedule.specs.Commits.{committed_over, view_over}
 use Rattle.schedule.specs.Standing.{cluster_from, cluster_stepped, commits_of, is_done, is_reported, is_submitted, listed, with_next}
 use Rattle.schedule.specs.Keys.{MayReadKey, MayWriteKey}
 use Rattle.schedule.specs.Reach.{added_by, opened_in, reach, writes}
@@ -115,7 +115,7 @@ reply_right at_first c commits open_now command answer is = elim is [
 ]
   where
     seen : Serial
-    seen = view at_first commits open_now
+    seen = view_over at_first commits open_now
 
     base : Map
     base = database_at c open_now.read_version

@@ -20,8 +20,12 @@ committed_over before number commits version =
 abbrev pub committed_store : ℕ → List CommitEntry → ℕ → Serial
 committed_store number commits version = committed_over no_stores number commits version
 
--- what an open transaction sees of its store: what is committed at its read version, as its own accepted commands
--- change it
-abbrev pub view : Stores → List CommitEntry → Open → Serial
-view before commits open_now =
+-- what an open transaction sees of its store, where these were there at first: what is committed at its read version,
+-- as its own accepted commands change it
+abbrev pub view_over : Stores → List CommitEntry → Open → Serial
+view_over before commits open_now =
     effects (committed_over before open_now.store commits open_now.read_version) (accepted open_now.attempts)
+
+-- so it is where there was no store at first
+abbrev pub view : List CommitEntry → Open → Serial
+view commits open_now = view_over no_stores commits open_now

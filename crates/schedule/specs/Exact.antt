@@ -21,7 +21,7 @@ use Rattle.schedule.specs.Past.{Past, Attempt, Open, Submission, accepted, is_ac
 use Rattle.schedule.specs.Reach.{added_by, opened_in, reach, writes}
 use Rattle.schedule.specs.Performed.{HasAdded, IsReadRefusal, IsServed}
 use Rattle.schedule.specs.Holds.{HoldsAll, Stores, no_stores}
-use Rattle.schedule.specs.Commits.{committed_over, view}
+use Rattle.schedule.specs.Commits.{committed_over, view_over}
 use Rattle.schedule.specs.Contract.{AreSerialBy, EachRequest, HasReplies, IsReplyBy, IsSerialBy, attempted, past_of}
 
 -- what commands write one after another, in a transaction in the store with a number that sees this map at first
@@ -37,7 +37,7 @@ commands_written number m serial (command ∷ commands) =
 abbrev pub IsExactReply : Stores → ClusterState → List CommitEntry → Open → Command → Reply → Type 0
 IsExactReply before c commits open_now command reply =
     let number = open_now.store in
-    let seen = view before commits open_now in
+    let seen = view_over before commits open_now in
     let at_read = database_at c open_now.read_version in
     let written =
     commands_written number at_read (committed_over before number commits open_now.read_version)

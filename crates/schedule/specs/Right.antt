@@ -22,7 +22,7 @@ use Rattle.schedule.specs.Serve.{IsMeant}
 use Rattle.schedule.specs.Past.{Attempt, Open, Submission, is_accepted, submitted_in}
 use Rattle.schedule.specs.Performed.{IsLimit, IsRefusalAmong}
 use Rattle.schedule.specs.Holds.{Stores, no_stores}
-use Rattle.schedule.specs.Commits.{committed_over, view}
+use Rattle.schedule.specs.Commits.{committed_over, view_over}
 use Rattle.schedule.specs.Isolated.{IsIsolated}
 use Rattle.schedule.specs.Standing.{cluster_from, commits_of}
 use Rattle.schedule.specs.Keys.{MayReadKey, MayWriteKey}
@@ -47,7 +47,7 @@ pub record IsOverLimit (number : ℕ) (serial : Serial) (command : Command) (rep
 -- there at first; or servers refuse to read keys that it may read; or its own writes can meet that limit
 abbrev pub IsRightReply : Stores → ClusterState → List CommitEntry → Open → Command → Reply → Type 0
 IsRightReply before c commits open_now command reply =
-    let seen = view before commits open_now in
+    let seen = view_over before commits open_now in
     IsMeant seen command reply
     ⊎ (IsRefusalAmong (λ range. MayRefuse (tier_of c) range open_now.read_version)
     (MayReadKey open_now.store seen command) reply

@@ -1,6 +1,6 @@
 // The steps of clients: a transaction is begun, given commands, committed or abandoned. Called by
 // `running`.
-ghost use Rattle.std.specs.Prelude.{◌≡◌, ◌≤◌, IfOk, true};
+ghost use Rattle.std.specs.Prelude.{◌≡◌, ◌≤◌, IfOk, None, if◌then◌else◌, true};
 ghost use Rattle.cluster_core.specs.Cluster.{database_at};
 ghost use Rattle.schedule.specs.Holds.{IsHeld};
 ghost use Rattle.schedule.specs.Known.{IsKnown};
@@ -17,7 +17,7 @@ use crate::starting::laws_of;
 use crate::step::{CLIENTS, Command, Step};
 use crate::transcript::Commands;
 use cluster_core::{Cluster, SubmitError};
-use record_store::StoreNumber;
+use record_store::{Store, StoreNumber};
 use std::alloc::{AllocError, Global};
 use txn::Transaction;
 
@@ -29,6 +29,13 @@ fn is_accepted(reply: &Reply) -> bool
         reply,
         Reply::Refused(_) | Reply::Corrupt(_) | Reply::Stopped
     )
+}
+
+// The store that stays open, where stores may.
+fn kept_open(stays_open: bool, store: Option<Store>) -> Option<Store>
+    ensures { result ≡ (if stays_open then store else None) }
+{
+    if stays_open { store } else { None }
 }
 
 impl OpenTransaction {
@@ -49,8 +56,7 @@ impl OpenTransaction {
         known.store = self.opened.take();
         let transaction = &mut self.transaction;
         let reply = perform_open(alloc, command, self.store, transaction, cluster, known)?;
-        let opened = known.store.take();
-        self.opened = if stays_open { opened } else { None };
+        self.opened = kept_open(stays_open, known.store.take());
         if is_accepted(&reply) {
             let command = command.copy()?;
             self.commands.push(command)?;

@@ -69,17 +69,6 @@ impl Database {
     }
 }
 
-// How it is told that no cluster could be made.
-fn refused(error: ConfigError) -> ScheduleError
-    ensures memory { error ≡ ConfigError.Memory → result ≡ ScheduleError.Memory }
-    ensures other { (error ≡ ConfigError.Memory → ⊥) → result ≡ ScheduleError.Config error }
-{
-    match error {
-        ConfigError::Memory => ScheduleError::Memory,
-        error => ScheduleError::Config(error),
-    }
-}
-
 // The database at the start.
 pub(crate) fn start(alloc: Global, config: &Config) -> Result<Database, ScheduleError>
     ensures made { IfOk result (λ database. IsFirst (first_cluster config.now) database) }
@@ -90,7 +79,8 @@ pub(crate) fn start(alloc: Global, config: &Config) -> Result<Database, Schedule
 {
     match Database::new(alloc, config) {
         Ok(database) => Ok(database),
-        Err(error) => Err(refused(error)),
+        Err(ConfigError::Memory) => Err(ScheduleError::Memory),
+        Err(error) => Err(ScheduleError::Config(error)),
     }
 }
 
@@ -108,8 +98,10 @@ pub(crate) fn start_over(
         (error ≡ ScheduleError.Memory)
         ⊎ ((why : ConfigRefusal) × (error ≡ ScheduleError.Config why) × (config_refusal config.now ≡ Some why))) }
 {
-    match Database::over(alloc, config, pairs) {
-        Ok(database) => Ok(database),
-        Err(error) => Err(refused(error)),
-    }
+    let database = match Database::over(alloc, config, pairs) {
+        Ok(database) => database,
+        Err(ConfigError::Memory) => return Err(ScheduleError::Memory),
+        Err(why) => return Err(ScheduleError::Config(why)),
+    };
+    Ok(database)
 }

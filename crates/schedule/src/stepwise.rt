@@ -1,11 +1,12 @@
 //! A schedule that is made a step at a time, for who has no list of steps: a person at a shell.
-ghost use Rattle.std.specs.Prelude.{◌≡◌, ◌⊎◌, ◌≤◌, [], Some, IfOk, IfErr, OnOk, IsNone};
+ghost use Rattle.std.specs.Prelude.{◌≡◌, ◌⊎◌, ◌≤◌, [], Some, IfOk, IfErr, OnOk, IsNone, true};
 ghost use Rattle.std.specs.FinMap.{from_entries};
 ghost use Rattle.cluster_core.specs.Cluster.{forget};
 ghost use Rattle.cluster_core.specs.Configuration.{config_refusal, first_cluster_over};
 ghost use Rattle.cluster_core.specs.declared.answers.ConfigError.{ConfigError as ConfigRefusal};
 ghost use Rattle.schedule.specs.Exact.{IsExactOver, IsExactRun};
 ghost use Rattle.schedule.specs.Headline.{IsHeadline, IsHeadlineOver};
+ghost use Rattle.schedule.specs.Holds.{IsHeld};
 ghost use Rattle.schedule.specs.Right.{IsRightOver, IsRightRun};
 ghost use Rattle.schedule.specs.Stepwise.{DoesNext, HasDone, HasDoneFrom, IsSoFar, IsSoFarOver};
 ghost use Rattle.schedule.specs.Stepwise.{whole_cluster};
@@ -30,8 +31,8 @@ pub struct Schedule {
     database: Database,
     kept: KeptPlans,
     known: Known,
-    // Whether stores stay open between the commands of a transaction: where the database began over
-    // a base, nothing is known of its stores.
+    // Whether stores stay open between the commands of a transaction: not where it isn't known that
+    // the database began over stores.
     stays_open: bool,
 }
 
@@ -102,9 +103,9 @@ impl Schedule {
     /// stands at the configuration's first version, which isn't 0. Where a key is there more than
     /// once, the first of its pairs stands. Refused as `run_schedule` is.
     ///
-    /// Whether the pairs are those of stores is for the caller to know, and what is promised of the
-    /// schedule's steps is so for all stores that they hold. A command opens its store anew, since
-    /// nothing is known of it after the one before.
+    /// What is promised of the schedule's steps is so for all stores that the pairs hold. Where the
+    /// caller knows that they hold some (`of_stores`) a store stays open from one command of a
+    /// transaction to the next one; else each command opens it anew, since nothing is known of it.
     pub fn over(alloc: Global, config: &Config, pairs: Vec<Pair>) -> Result<Schedule, ScheduleError>
         requires { 1 ≤ config.now.start }
         ensures begun { IfOk result (
@@ -122,7 +123,7 @@ impl Schedule {
             database,
             kept,
             known: Known::new(),
-            stays_open: false,
+            stays_open: of_stores,
         })
     }
 

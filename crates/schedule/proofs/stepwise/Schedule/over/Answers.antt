@@ -1,6 +1,8 @@
-use Rattle.std.proofs.Common.{[]}
+use Rattle.std.proofs.Common.{[], subst, sym}
 use Rattle.std.specs.FinMap.{from_entries}
 use Rattle.cluster_core.specs.Configuration.{first_cluster_over}
+use Rattle.cluster_core.specs.Cluster.{ClusterState}
+use Rattle.schedule.specs.Holds.{IsHeld}
 use Rattle.schedule.specs.Stepwise.{whole_database}
 use Rattle.schedule.proofs.Forgotten.{first_forgets, first_whole}
 use Rattle.schedule.proofs.RunSteps.{first_run}
@@ -14,7 +16,7 @@ invariant_of-result c =
     let first = c.in_ok-database.ensures.made in
     record {
       forgotten = first_forgets base config database first;
-      held = λ yes. absurd (cc);
+      held = λ yes. subst (λ (c : ClusterState). IsHeld c.base) (sym first.cluster) (c.requires.stores yes);
       first = first_cluster_over base config;
       steps = [];
       replies = [];
