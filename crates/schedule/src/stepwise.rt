@@ -106,8 +106,14 @@ impl Schedule {
     /// What is promised of the schedule's steps is so for all stores that the pairs hold. Where the
     /// caller knows that they hold some (`of_stores`) a store stays open from one command of a
     /// transaction to the next one; else each command opens it anew, since nothing is known of it.
-    pub fn over(alloc: Global, config: &Config, pairs: Vec<Pair>) -> Result<Schedule, ScheduleError>
-        requires { 1 ≤ config.now.start }
+    pub fn over(
+        alloc: Global,
+        config: &Config,
+        pairs: Vec<Pair>,
+        of_stores: bool,
+    ) -> Result<Schedule, ScheduleError>
+        requires start { 1 ≤ config.now.start }
+        requires stores { of_stores ≡ true → IsHeld (from_entries pairs.items) }
         ensures begun { IfOk result (
             HasDoneFrom (first_cluster_over (from_entries pairs.items) config.now) [] []) }
         ensures allowed { OnOk result (IsNone (config_refusal config.now)) }
