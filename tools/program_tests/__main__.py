@@ -15,6 +15,7 @@ from cases import cases_in, example_cases
 from drawings import drawing_faults
 from edges import MANY_STEPS, MEMORY_LIMITS, SETTLE, byte_cases, command_line_cases, echo_cases, long_cases, long_line
 from folders import folder_faults
+from kills import kill_faults
 from manuals import manual_faults
 from shells import shell_cases
 from terminals import terminal_faults
@@ -109,6 +110,7 @@ def faults(program, folder):
     yield from drawing_faults(program, cases)
     yield from terminal_faults(program, folder)
     yield from folder_faults(program, folder, cases)
+    yield from kill_faults(program, folder)
     yield from manual_faults(program)
     race = next(case for case in cases if "race" in case.words[:1] and case.status == 0)
     kept = os.path.join(folder, "talk")

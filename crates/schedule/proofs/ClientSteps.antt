@@ -91,7 +91,7 @@ same_requests old new same = ap (λ (c : ClusterState). c.pipeline.requests) sam
 -- ---- begin
 
 pub begin_steps : (old new : Database) (client number version : ℕ) (found : Option OpenTransaction) (transaction : OpenTransaction) → client < CLIENTS → is_store_number number ≡ true →
-    found ≡ get_or old.transactions.items client found → found ≡ None → version ≡ old.cluster.pipeline.reported → transaction.store ≡ number → transaction.transaction ≡ fresh_request version → transaction.commands.items ≡ [] → transaction.opened ≡ None →
+    found ≡ get_or old.transactions.items client found → found ≡ None → version ≡ old.cluster.pipeline.reported → transaction.store ≡ number → transaction.transaction ≡ fresh_request version → transaction.commands ≡ [] → transaction.opened ≡ None →
     IsSet old new client (Some transaction) → IsStepped (Begin client number) (Begun version) old new
 begin_steps old new client number version found transaction there lawful is closed at in_store is_fresh none unopened set past s =
     let maps = database_at old.cluster in

@@ -107,7 +107,7 @@ one_longer xs x = length-append xs (x ∷ [])
 standing_submitted : (c : ClusterState) (opens : ℕ → Option Open) (submissions : List Submission) (transactions : List (Option OpenTransaction)) (waiting : List Unreported) (entries : List CommitEntry)
     (client version : ℕ) (ended : Open) (transaction : OpenTransaction) → IsStandingAt c opens submissions transactions waiting entries → IsOpen (database_at c) c.pipeline.reported ended transaction → version ≡ submitted c.pipeline + 1 →
     IsStandingAt (with_pipeline (submit transaction.transaction c.pipeline) c) opens (submissions ++ (record { version = version; client = client; transaction = ended }) ∷ []) transactions
-    (waiting ++ (record { client = client; store = transaction.store; read_version = transaction.transaction.read_version; commands = transaction.commands.items }) ∷ []) entries
+    (waiting ++ (record { client = client; store = transaction.store; read_version = transaction.transaction.read_version; commands = transaction.commands }) ∷ []) entries
 standing_submitted c opens submissions transactions waiting entries client version ended transaction s is is_next =
     let p = c.pipeline in
     let request = transaction.transaction in
@@ -122,7 +122,7 @@ standing_submitted c opens submissions transactions waiting entries client versi
       pulled = λ k d within. let below : get_or c.pulled k d ≤ p.start + length p.requests = s.pulled k d within in omega (arith, longer, below);
       places = λ who there. place_elsewhere (database_at c) (database_at (with_pipeline (submit request p) c)) p.reported (opens who) (get_or transactions who None) (λ v h. maps_submitted c.base p request v (omega (arith, h, given))) (s.places who there);
       unreported =
-          ap (λ ws. ws ++ (record { client = client; store = transaction.store; read_version = request.read_version; commands = transaction.commands.items }) ∷ []) s.unreported
+          ap (λ ws. ws ++ (record { client = client; store = transaction.store; read_version = request.read_version; commands = transaction.commands }) ∷ []) s.unreported
           ∙ (λ i. map kept (drop (p.reported - p.start) submissions) ++ (record { client = client; store = is.store i; read_version = is.done.at i; commands = is.commands i }) ∷ [])
           ∙ sym (map-append kept (drop (p.reported - p.start) submissions) (one ∷ []))
           ∙ ap (map kept) (sym (drop-append-le (p.reported - p.start) submissions (one ∷ []) behind));
@@ -139,7 +139,7 @@ moved_submitted c request more =
 pub one_submitted : (opens : ℕ → Option Open) (submissions : List Submission) (client version : ℕ) (ended : Open) (transaction : OpenTransaction) (old new : Database) → IsStanding opens submissions old →
     IsOpen (database_at old.cluster) old.cluster.pipeline.reported ended transaction → (transaction.transaction.mutations ≡ [] → ⊥) →
     submit_refusal old.cluster.pipeline transaction.transaction.read_version ≡ None → new.cluster ≡ with_pipeline (submit transaction.transaction old.cluster.pipeline) old.cluster → version ≡ submitted new.cluster.pipeline →
-    new.transactions.items ≡ old.transactions.items → new.unreported.items ≡ old.unreported.items ++ (record { client = client; store = transaction.store; read_version = transaction.transaction.read_version; commands = transaction.commands.items }) ∷ [] →
+    new.transactions.items ≡ old.transactions.items → new.unreported.items ≡ old.unreported.items ++ (record { client = client; store = transaction.store; read_version = transaction.transaction.read_version; commands = transaction.commands }) ∷ [] →
     new.commits ≡ old.commits → Submits opens submissions client ended (Submitted version) old new
 one_submitted opens submissions client version ended transaction old new s is some allowed cluster at transactions waiting entries =
     let p = old.cluster.pipeline in
@@ -151,6 +151,6 @@ one_submitted opens submissions client version ended transaction old new s is so
       added = request ∷ [];
       grown = ap (λ (c : ClusterState). c.pipeline.requests) cluster;
       after = standing_as opens (submitted_by client ended (Submitted version) submissions) new (with_pipeline (submit request p) old.cluster) old.transactions.items
-          (old.unreported.items ++ (record { client = client; store = transaction.store; read_version = request.read_version; commands = transaction.commands.items }) ∷ []) old.commits cluster transactions waiting entries
+          (old.unreported.items ++ (record { client = client; store = transaction.store; read_version = request.read_version; commands = transaction.commands }) ∷ []) old.commits cluster transactions waiting entries
           (standing_submitted old.cluster opens submissions old.transactions.items old.unreported.items old.commits client version ended transaction s is is_next);
     }

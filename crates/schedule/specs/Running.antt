@@ -18,6 +18,7 @@ use Rattle.schedule.specs.declared.reply.Reply.TheVariants.{Done, Nothing, Refus
 use Rattle.schedule.specs.declared.refusal.Refusal.TheVariants.{NoPlan}
 use Rattle.schedule.specs.declared.reply.Report.{Report}
 use Rattle.schedule.specs.declared.transcript.CommitEntry.{CommitEntry}
+use Rattle.schedule.specs.declared.commit_log.Listed.{Listed}
 use Rattle.schedule.specs.declared.database.Database.{Database}
 use Rattle.schedule.specs.declared.database.OpenTransaction.{OpenTransaction}
 use Rattle.schedule.specs.declared.database.Told.{Told}
@@ -46,7 +47,7 @@ kept one =
 pub record IsOpen (maps : ℕ → Map) (reported : ℕ) (open_now : Open) (transaction : OpenTransaction) : Type 0 where
   pub store : transaction.store ≡ open_now.store
   pub done : IsOpenTransaction maps reported open_now transaction.transaction
-  pub commands : transaction.commands.items ≡ accepted open_now.attempts
+  pub commands : transaction.commands ≡ accepted open_now.attempts
   pub known : IsKnown transaction.store maps transaction.opened transaction.transaction
 
 -- a client's place has its open transaction, where there is one
@@ -120,7 +121,7 @@ pub record IsPerformedBy (c : ClusterState) (stays_open : Bool) (command : Comma
   pub performed :
       IsPerformed old.store (database_at c) (λ range. MayRefuse (tier_of c) range old.transaction.read_version)
       command reply old.transaction new.transaction
-  pub commands : new.commands.items ≡ old.commands.items ++ (if is_accepted reply then command ∷ [] else [])
+  pub commands : new.commands ≡ old.commands ++ (if is_accepted reply then command ∷ [] else [])
   pub known :
       (stays_open ≡ true → SeesSerial old.store (database_at c) old.transaction) →
       IsKnown old.store (database_at c) new.opened new.transaction
@@ -215,6 +216,17 @@ unreported_entry version next =
       store = next.store;
       read_version = next.read_version;
       commands = next.commands;
+    }
+
+-- Private: what is handed out of a listed transaction
+abbrev pub listed_entry : Listed → CommitEntry
+listed_entry one =
+    record {
+      version = one.version;
+      client = one.client;
+      store = one.store;
+      read_version = one.read_version;
+      commands = one.commands;
     }
 
 -- a transaction is what its attempts made of a fresh one, by the maps that the cluster has now

@@ -7,6 +7,7 @@ ghost use Rattle.schedule.specs.Known.{IsKnown};
 ghost use Rattle.schedule.specs.Past.{Past, is_accepted};
 ghost use Rattle.schedule.specs.Running.{IsPerformedBy, IsStepped, IsSteppedWith, IsSubmit, IsUnplanned, StandsAfter};
 
+use crate::accepted::Accepted;
 use crate::database::{Database, OpenTransaction, Unreported};
 use crate::kept_plans::KeptPlans;
 use crate::known::Known;
@@ -15,7 +16,6 @@ use crate::refusal::Refusal;
 use crate::reply::Reply;
 use crate::starting::laws_of;
 use crate::step::{CLIENTS, Command, Step};
-use crate::transcript::Commands;
 use cluster_core::{Cluster, SubmitError};
 use record_store::{Store, StoreNumber};
 use std::alloc::{AllocError, Global};
@@ -58,7 +58,6 @@ impl OpenTransaction {
         let reply = perform_open(alloc, command, self.store, transaction, cluster, known)?;
         self.opened = kept_open(stays_open, known.store.take());
         if is_accepted(&reply) {
-            let command = command.copy()?;
             self.commands.push(command)?;
         }
         Ok(reply)
@@ -80,7 +79,7 @@ impl Database {
             return Reply::Refused(Refusal::Busy);
         }
         let version = self.cluster.read_version();
-        let commands = Vec::new(alloc);
+        let commands = Accepted::new(alloc, self.commits.is_whole());
         self.transactions[client as usize] = Some(OpenTransaction {
             store,
             transaction: Transaction::begin(alloc, version),
@@ -175,7 +174,7 @@ impl Database {
                     client,
                     store,
                     read_version,
-                    commands: Commands::new(commands),
+                    commands,
                 })?;
                 Ok(Reply::Submitted(ticket.version()))
             }

@@ -3,9 +3,8 @@
 ghost use Rattle.std.specs.Prelude.{◌≡◌, vec_len};
 ghost use Rattle.schedule.specs.declared.step.TheConstants.{CLIENTS};
 
+use crate::accepted::Accepted;
 use crate::commit_log::CommitLog;
-use crate::step::Command;
-use crate::transcript::Commands;
 use cluster_core::{Cluster, Reported};
 use record_store::{Store, StoreNumber};
 use std::collections::VecDeque;
@@ -16,7 +15,7 @@ use txn::Transaction;
 pub(crate) struct OpenTransaction {
     pub(crate) store: StoreNumber,
     pub(crate) transaction: Transaction,
-    pub(crate) commands: Vec<Command>,
+    pub(crate) commands: Accepted,
     // The store, where a command left it open.
     pub(crate) opened: Option<Store>,
 }
@@ -27,7 +26,7 @@ pub(crate) struct Unreported {
     pub(crate) client: u64,
     pub(crate) store: StoreNumber,
     pub(crate) read_version: u64,
-    pub(crate) commands: Commands,
+    pub(crate) commands: Accepted,
 }
 
 // What is told of a submitted transaction, and whose it was.

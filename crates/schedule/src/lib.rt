@@ -8,6 +8,7 @@ ghost use Rattle.schedule.specs.Exact.{IsExactRun};
 ghost use Rattle.schedule.specs.Headline.{IsHeadline};
 ghost use Rattle.schedule.specs.Right.{IsRightRun};
 
+mod accepted;
 mod asked_query;
 mod building;
 mod clients;
@@ -63,7 +64,7 @@ pub fn run_schedule(
     ensures refused { IfErr result (λ error. (error ≡ ScheduleError.Memory)
         ⊎ ((why : ConfigRefusal) × (error ≡ ScheduleError.Config why) × (config_refusal config.now ≡ Some why))) }
 {
-    let mut database = start(alloc, config)?;
+    let mut database = start(alloc, config, true)?;
     let replies = match database.steps(alloc, steps) {
         Ok(replies) => replies,
         Err(AllocError) => return Err(ScheduleError::Memory),

@@ -4,11 +4,10 @@ ghost use Rattle.schedule.specs.Contract.{report_to, reports_reply};
 ghost use Rattle.schedule.specs.Running.{IsReported, IsStepped, IsTelling, unreported_entry};
 ghost use Rattle.schedule.specs.Standing.{is_told};
 
-use crate::commit_log::CommitLog;
+use crate::commit_log::{CommitLog, Listed};
 use crate::database::{Database, Told, Unreported};
 use crate::reply::{Reply, Report, Reports};
 use crate::step::Step;
-use crate::transcript::CommitEntry;
 use cluster_core::Reported;
 use std::alloc::{AllocError, Global};
 
@@ -51,7 +50,7 @@ fn list_commit(
         else [])) }
 {
     if let Reported::Committed(_) = reported {
-        commits.push(CommitEntry {
+        commits.push(Listed {
             version,
             client: next.client,
             store: next.store,

@@ -69,15 +69,19 @@ impl Database {
     }
 }
 
-// The database at the start.
-pub(crate) fn start(alloc: Global, config: &Config) -> Result<Database, ScheduleError>
+// The database at the start, whose transactions are listed as bytes where the list is wanted whole.
+pub(crate) fn start(
+    alloc: Global,
+    config: &Config,
+    is_whole: bool,
+) -> Result<Database, ScheduleError>
     ensures made { IfOk result (λ database. IsFirst (first_cluster config.now) database) }
     ensures allowed { OnOk result (IsNone (config_refusal config.now)) }
     ensures refused { IfErr result (λ error.
         (error ≡ ScheduleError.Memory)
         ⊎ ((why : ConfigRefusal) × (error ≡ ScheduleError.Config why) × (config_refusal config.now ≡ Some why))) }
 {
-    match Database::new(alloc, config) {
+    match Database::new(alloc, config, is_whole) {
         Ok(database) => Ok(database),
         Err(ConfigError::Memory) => Err(ScheduleError::Memory),
         Err(error) => Err(ScheduleError::Config(error)),

@@ -36,8 +36,9 @@ pub(crate) fn laws_of(cluster: &Cluster)
 }
 
 impl Database {
-    // The database with this cluster, in which nothing was done.
-    fn of(alloc: Global, cluster: Cluster) -> Result<Database, AllocError>
+    // The database with this cluster, in which nothing was done. Its transactions are listed as bytes
+    // where the list is wanted whole.
+    fn of(alloc: Global, cluster: Cluster, is_whole: bool) -> Result<Database, AllocError>
         ensures { IfOk result (λ database. IsFirst cluster database) }
     {
         let transactions = none_each(alloc)?;
@@ -45,23 +46,27 @@ impl Database {
             cluster,
             transactions,
             unreported: VecDeque::new(alloc),
-            commits: CommitLog::new(alloc),
+            commits: CommitLog::new(alloc, is_whole),
         })
     }
 
     // The database at the start.
-    pub(crate) fn new(alloc: Global, config: &Config) -> Result<Database, ConfigError>
+    pub(crate) fn new(
+        alloc: Global,
+        config: &Config,
+        is_whole: bool,
+    ) -> Result<Database, ConfigError>
         ensures made { IfOk result (λ database. IsFirst (first_cluster config.now) database) }
         ensures allowed { OnOk result (IsNone (config_refusal config.now)) }
         ensures refused { IfErr result (λ error.
             (error ≡ ConfigError.Memory) ⊎ (config_refusal config.now ≡ Some error)) }
     {
         let cluster = Cluster::new(alloc, config)?;
-        let database = Database::of(alloc, cluster)?;
+        let database = Database::of(alloc, cluster, is_whole)?;
         Ok(database)
     }
 
-    // The database over the map of these pairs.
+    // The database over the map of these pairs. Nobody is given the list of its transactions.
     pub(crate) fn over(
         alloc: Global,
         config: &Config,
@@ -75,7 +80,7 @@ impl Database {
             (error ≡ ConfigError.Memory) ⊎ (config_refusal config.now ≡ Some error)) }
     {
         let cluster = Cluster::over(alloc, config, pairs)?;
-        let database = Database::of(alloc, cluster)?;
+        let database = Database::of(alloc, cluster, false)?;
         Ok(database)
     }
 }

@@ -24,10 +24,9 @@ use kv_core::Pair;
 use std::alloc::{AllocError, Global};
 use std::marker::Model;
 
-/// A schedule after the steps that were done so far. It keeps no list of committed transactions, and
-/// of the requests no more bytes than a role or a server may still ask for, so that its memory is
-/// that of the database, of its window and of what is open.
-pub struct Schedule {
+// What a schedule has.
+#[derive(Drop)]
+struct Parts {
     database: Database,
     kept: KeptPlans,
     known: Known,
@@ -36,18 +35,19 @@ pub struct Schedule {
     stays_open: bool,
 }
 
+/// A schedule after the steps that were done so far. It keeps no list of committed transactions, and
+/// of the requests no more bytes than a role or a server may still ask for, so that its memory is
+/// that of the database, of its window and of what is open.
+pub struct Schedule {
+    // Boxed, since a schedule goes into each step and comes out of it by value.
+    parts: Box<Parts>,
+}
+
 // Written out, so that no proof of a caller has to take the database apart where one is dropped.
 impl Drop for Schedule {
     fn drop(self) {
-        let Schedule {
-            database,
-            kept,
-            known,
-            stays_open: _,
-        } = self;
-        drop(database);
-        drop(kept);
-        drop(known);
+        let Schedule { parts } = self;
+        drop(parts);
     }
 }
 
@@ -62,18 +62,17 @@ impl Model for Schedule {
 
     ghost coded = { Prim.hlevel (codes, map_code, command.the_row.coded, plan.the_row.coded) };
 
-    ghost view = { λ s. stepwise_state s.database s.kept.plans.items };
+    ghost view = { λ s. stepwise_state s.parts.value.database s.parts.value.kept.plans.items };
 
-    ghost invariant = { λ s. IsReached s.database s.kept.plans.items s.stays_open };
+    ghost invariant = { λ s. IsReached s.parts.value.database
+        s.parts.value.kept.plans.items s.parts.value.stays_open };
 }
 
 impl Database {
-    // Lets go the transactions that are listed, since whoever has steps one by one isn't given the
-    // list, and the bytes of the requests of which nobody asks again.
+    // Lets go the bytes of the requests of which nobody asks again.
     fn let_go(&mut self)
         ensures { self.new ≡ record self.old { cluster = forget self.old.cluster } }
     {
-        self.commits.let_go();
         self.cluster.forget();
     }
 }
@@ -86,17 +85,22 @@ impl Schedule {
         ensures refused { IfErr result (λ error. (error ≡ ScheduleError.Memory)
             ⊎ ((why : ConfigRefusal) × (error ≡ ScheduleError.Config why) × (config_refusal config.now ≡ Some why))) }
     {
-        let database = start(alloc, config)?;
+        let database = start(alloc, config, false)?;
         let kept = match KeptPlans::new(alloc) {
             Ok(kept) => kept,
             Err(AllocError) => return Err(ScheduleError::Memory),
         };
-        Ok(Schedule {
+        let known = Known::new();
+        let parts = Parts {
             database,
             kept,
-            known: Known::new(),
+            known,
             stays_open: true,
-        })
+        };
+        match Box::new(alloc, parts) {
+            Ok(parts) => Ok(Schedule { parts }),
+            Err(_) => Err(ScheduleError::Memory),
+        }
     }
 
     /// A schedule of no steps, over the map of these pairs, as a checkpoint or a log gives them. It
@@ -125,33 +129,34 @@ impl Schedule {
             Ok(kept) => kept,
             Err(AllocError) => return Err(ScheduleError::Memory),
         };
-        Ok(Schedule {
+        let known = Known::new();
+        let parts = Parts {
             database,
             kept,
-            known: Known::new(),
+            known,
             stays_open: of_stores,
-        })
+        };
+        match Box::new(alloc, parts) {
+            Ok(parts) => Ok(Schedule { parts }),
+            Err(_) => Err(ScheduleError::Memory),
+        }
     }
 
     /// Does one step more, and answers its reply. Where memory runs out the schedule has ended.
     pub fn step(self, alloc: Global, step: &Step) -> Result<(Schedule, Reply), AllocError>
         ensures { IfOk result (λ done. DoesNext step.now done.1 self done.0) }
     {
-        let Schedule {
-            mut database,
-            mut kept,
-            mut known,
-            stays_open,
-        } = self;
-        let reply = database.step(alloc, &kept, &mut known, stays_open, step)?;
-        kept.keep(step, &reply)?;
-        database.let_go();
-        let longer = Schedule {
+        let Schedule { mut parts } = self;
+        let Parts {
             database,
             kept,
             known,
             stays_open,
-        };
+        } = &mut *parts;
+        let reply = database.step(alloc, kept, known, *stays_open, step)?;
+        kept.keep(step, &reply)?;
+        database.let_go();
+        let longer = Schedule { parts };
         Ok((longer, reply))
     }
 
@@ -169,7 +174,8 @@ impl Schedule {
         ensures exact_over { IsSoFarOver IsExactOver self.now }
         ensures headline_over { IsSoFarOver (λ _. IsHeadlineOver) self.now }
     {
-        laws_of(&self.database.cluster);
-        &self.database.cluster
+        let parts = self.parts.as_ref();
+        laws_of(&parts.database.cluster);
+        &parts.database.cluster
     }
 }

@@ -13,5 +13,5 @@ returns-in_default c =
 pub returns : goal.returns
 returns c =
     begin_steps c.args.self.now _ c.args.client c.args.number c.read_version-version.result c.index.result.now _ (omega arith) c.in-Some.ensures.0 c.index.ensures
-    (none_from c.index.result.now (sym c.is_some.ensures ∙ c.if-is_some.false)) c.read_version-version.ensures.value c.in-Some.ensures.1 c.begin.ensures c.new-commands.ensures.items refl
+    (none_from c.index.result.now (sym c.is_some.ensures ∙ c.if-is_some.false)) c.read_version-version.ensures.value c.in-Some.ensures.1 c.begin.ensures c.new-commands.ensures refl
     (record { cluster = refl; transactions = refl; unreported = refl; commits = refl })

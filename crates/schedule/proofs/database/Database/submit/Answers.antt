@@ -24,7 +24,7 @@ returns-in-Ok c opens subs ended s is =
     (c.version.ensures ∙ c.in-Ok.ensures.given.1)
     refl
     (c.in_ok-push_back-in-Ok.ensures.items
-    ∙ (λ i. c.args.self.now.unreported.items ++ (record { client = c.args.client; store = c.args.ended.store; read_version = (request i).read_version; commands = c.new.ensures i }) ∷ []))
+    ∙ (λ i. c.args.self.now.unreported.items ++ (record { client = c.args.client; store = c.args.ended.store; read_version = (request i).read_version; commands = c.args.ended.commands }) ∷ []))
     refl
 
 pub returns-in-Err-VersionsExhausted : goal.returns-in-Err-VersionsExhausted
