@@ -1,22 +1,23 @@
 -- What a crash leaves while the end of a file is repaired.
-use Rattle.std.proofs.Common.{◌≡◌, inl, inr, ℕ, zero, suc, ◌+◌, ◌-◌, ◌<◌, ◌≤◌, ◌^◌, true, List, [], ◌∷◌, ◌++◌, length, take, drop, min, replicate, refl, sym, ◌∙◌, ap, ap₂, subst, arith, append-nil, length-append, length-drop, take-append-drop}
-use Rattle.std.proofs.lemmas.List.{take_at, take_all, drop_all}
+use Rattle.std.proofs.Common.{◌≡◌, inl, inr, ⊎_elim, ℕ, zero, suc, ◌+◌, ◌-◌, ◌<◌, ◌≤◌, ◌^◌, true, List, [], ◌∷◌, ◌++◌, length, take, drop, max, min, replicate, refl, sym, ◌∙◌, ap, ap₂, subst, arith, length-append, length-take, length-drop}
+use Rattle.std.proofs.lemmas.List.{take_at, drop-drop, take-append-drop}
 use Rattle.std.proofs.lemmas.Bool.{cases_eq}
-use Rattle.journal.specs.Device.{HasWritten, Torn, Cut, LeftBy, Only, Elapses}
-use Rattle.journal.specs.Form.{blocks, at_rest}
-use Rattle.journal.specs.Block.{length_fits, StandsFor}
-use Rattle.journal.specs.Journal.{entries_read}
+use Rattle.journal.specs.Device.{IsMixed, Torn, Cut, LeftBy, Only, Elapses}
+use Rattle.journal.specs.Form.{file_blocks}
+use Rattle.journal.specs.Block.{counts_fit, StandsFor}
+use Rattle.journal.specs.Journal.{entries_read, batches_read, IsKeptAtRest, IsBlocksAndZeros}
 use Rattle.journal.specs.Recovery.{EntriesEndAt}
 use Rattle.journal.proofs.Firsts.{IsEnd, none, closed, short, end_is, end_from, end_front}
 use Rattle.journal.proofs.Moments.{Run, begins, calls}
 use Rattle.journal.proofs.Parts.{before_at}
-use Rattle.journal.proofs.Readings.{stands_end}
+use Rattle.journal.proofs.Readings.{joined_read, stands_end}
+use Rattle.journal.proofs.Settled.{stands_zeros, batches_zeros, kept_zeros}
 
-fits_none : length_fits [] ≡ true
-unfolding length_fits
+fits_none : counts_fit [] ≡ true
+unfolding counts_fit
 fits_none = refl
 
-pub short_is_end : (bytes : List ℕ) → length bytes ≤ 1 → IsEnd bytes
+short_is_end : (bytes : List ℕ) → length bytes ≤ 1 → IsEnd bytes
 short_is_end [] few = none
 short_is_end (gate ∷ []) few = elim (cases_eq gate 1) [
   | inl is_open ↦ subst (λ (g : ℕ). IsEnd (g ∷ [])) (sym is_open) (short [] fits_none (omega arith))
@@ -24,7 +25,20 @@ short_is_end (gate ∷ []) few = elim (cases_eq gate 1) [
 ]
 short_is_end (gate ∷ byte ∷ bytes) few = absurd (omega arith)
 
+-- an end with a zero over its first byte, or behind it where it has none
+zero_end : (old new : List ℕ) → IsEnd old → IsMixed old (0 ∷ []) new → drop 1 new ≡ drop 1 old → length new ≤ max (length old) 1 → IsEnd new
+zero_end [] new ends mixed same few = short_is_end new (omega (arith, few))
+zero_end (gate ∷ old) [] ends mixed same few = absurd mixed
+zero_end (gate ∷ old) (here ∷ new) ends mixed same few =
+    ⊎_elim
+    (λ still. subst IsEnd (sym (ap₂ (λ (b : ℕ) (l : List ℕ). b ∷ l) still same)) ends)
+    (λ shut. subst (λ (b : ℕ). IsEnd (b ∷ new)) (sym shut) (closed 0 new (omega arith)))
+    mixed.0
+
 module _ (file : List ℕ) (end : ℕ) (e : EntriesEndAt file end) (small : length file < 2 ^ 63) where
+  abbrev pub batches : List (List (List ℕ))
+  batches = batches_read file
+
   abbrev pub entries : List (List ℕ)
   entries = entries_read file
 
@@ -32,19 +46,24 @@ module _ (file : List ℕ) (end : ℕ) (e : EntriesEndAt file end) (small : leng
   tail = drop end file
 
   long : length file ≡ end + length tail
-  long = omega (arith, ap length e.split, length-append (blocks entries) tail, e.place)
+  long = omega (arith, ap length e.split, length-append (file_blocks batches) tail, e.place)
 
   pub within : end ≤ length file
   within = omega (arith, long)
 
-  size : length (blocks entries) < 2 ^ 64
+  size : length (file_blocks batches) < 2 ^ 64
   size = omega (arith, long, e.place, small)
 
-  pub whole : StandsFor file entries
-  whole = subst (λ f. StandsFor f entries) (sym e.split) (stands_end entries tail size e.nothing)
+  kept_stands : (d : List ℕ) → take end d ≡ file_blocks batches → IsEnd (drop end d) → StandsFor d entries
+  kept_stands d front ends =
+      let is : d ≡ file_blocks batches ++ drop end d = sym (take-append-drop end d) ∙ ap (λ (l : List ℕ). l ++ drop end d) front in
+      subst (λ f. StandsFor f entries) (sym is) (subst (λ es. StandsFor (file_blocks batches ++ drop end d) es) (sym (joined_read file)) (stands_end batches (drop end d) size (end_is _ ends)))
 
-  pub cut_done : take end file ≡ blocks entries
-  cut_done = ap (λ (l : List ℕ). take end l) e.split ∙ take_at (blocks entries) tail end e.place
+  pub cut_done : take end file ≡ file_blocks batches
+  cut_done = ap (λ (l : List ℕ). take end l) e.split ∙ take_at (file_blocks batches) tail end e.place
+
+  pub whole : StandsFor file entries
+  whole = kept_stands file cut_done (end_from tail e.nothing)
 
   -- zeros before the tail are an end, as the tail is
   zeros_end : (zeros : ℕ) → IsEnd (replicate zeros 0 ++ drop (end + zeros) file)
@@ -52,43 +71,49 @@ module _ (file : List ℕ) (end : ℕ) (e : EntriesEndAt file end) (small : leng
   zeros_end (suc zeros) = closed 0 (replicate zeros 0 ++ drop (end + suc zeros) file) (λ open_gate. absurd (omega (arith, open_gate)))
 
   -- any cut keeps the entries
-  pub cut_keeps : (c : List ℕ) → Cut end file c → StandsFor c entries
-  cut_keeps c cut =
-      let all : min end (length file) ≡ end = omega (arith, within) in
-      let front : take end c ≡ blocks entries = ap (λ (k : ℕ). take k c) (sym all) ∙ cut.front ∙ cut_done in
-      let is : c ≡ blocks entries ++ drop end c = sym (take-append-drop end c) ∙ ap (λ (l : List ℕ). l ++ drop end c) front in
-      let ends : IsEnd (drop end c) = subst IsEnd (sym cut.behind) (end_front (length c - end) (replicate cut.zeros 0 ++ drop (end + cut.zeros) file) (zeros_end cut.zeros)) in
-      subst (λ f. StandsFor f entries) (sym is) (stands_end entries (drop end c) size (end_is _ ends))
+  cut_front : (c : List ℕ) → Cut end file c → take end c ≡ file_blocks batches
+  cut_front c cut = let all : min end (length file) ≡ end = omega (arith, within) in ap (λ (k : ℕ). take k c) (sym all) ∙ cut.front ∙ cut_done
 
-  -- one byte behind the blocks is no block
-  pub torn_end : (c : List ℕ) → Torn end 1 (blocks entries) c → StandsFor c entries
-  torn_end c torn =
-      let front : take end c ≡ blocks entries = before_at end 1 (blocks entries) c torn (omega (arith, e.place)) ∙ take_all end (blocks entries) (omega (arith, e.place)) in
-      let is : c ≡ blocks entries ++ drop end c = sym (take-append-drop end c) ∙ ap (λ (l : List ℕ). l ++ drop end c) front in
-      let few : length (drop end c) ≤ 1 = omega (arith, length-drop end c, e.place, torn.no_longer) in
-      subst (λ f. StandsFor f entries) (sym is) (stands_end entries (drop end c) size (end_is _ (short_is_end (drop end c) few)))
+  cut_end : (c : List ℕ) → Cut end file c → IsEnd (drop end c)
+  cut_end c cut = subst IsEnd (sym cut.behind) (end_front (length c - end) (replicate cut.zeros 0 ++ drop (end + cut.zeros) file) (zeros_end cut.zeros))
 
-  pub written_end : (c : List ℕ) → HasWritten (blocks entries) end (0 ∷ []) c → c ≡ at_rest entries
-  written_end c holds =
-      holds
-      ∙ ap₂ (λ (l r : List ℕ). l ++ (0 ∷ []) ++ r) (take_all end (blocks entries) (omega (arith, e.place))) (drop_all (end + 1) (blocks entries) (omega (arith, e.place)))
-      ∙ append-nil (at_rest entries)
+  -- and so does a zero behind them
+  zero_keeps : (d c : List ℕ) → take end d ≡ file_blocks batches → IsEnd (drop end d) → Torn end (0 ∷ []) d c → StandsFor c entries
+  zero_keeps d c front ends torn =
+      let far : end ≤ length d = omega (arith, ap length front, length-take end d, e.place) in
+      let same : drop 1 (drop end c) ≡ drop 1 (drop end d) = drop-drop 1 end c ∙ torn.after ∙ sym (drop-drop 1 end d) in
+      kept_stands c (before_at end (0 ∷ []) d c torn far ∙ front)
+      (zero_end (drop end d) (drop end c) ends torn.range same (omega (arith, length-drop end c, length-drop end d, torn.no_longer, far)))
 
   pub left_by_none : (may_leave : List ℕ → Type 0) → Only file may_leave → (c : List ℕ) → may_leave c → StandsFor c entries
   left_by_none may_leave only c left = subst (λ f. StandsFor f entries) (sym (only c left)) whole
 
-  pub left_by_cut : (old new : List ℕ → Type 0) → Only file old → LeftBy (Cut end) old new → (c : List ℕ) → new c → StandsFor c entries
+  left_by_cut : (old new : List ℕ → Type 0) → Only file old → LeftBy (Cut end) old new → (c : List ℕ) → new c → StandsFor c entries
   left_by_cut old new only follows c left =
       let from = follows c left in
-      cut_keeps c (subst (λ f. Cut end f c) (only from.0 from.1) from.2)
+      let cut : Cut end file c = subst (λ f. Cut end f c) (only from.0 from.1) from.2 in
+      kept_stands c (cut_front c cut) (cut_end c cut)
 
-  pub left_by_gate : (cut : List ℕ) (old new : List ℕ → Type 0) → cut ≡ take end file → Only cut old → LeftBy (Torn end 1) old new → (c : List ℕ) → new c → StandsFor c entries
-  left_by_gate cut old new is only follows c left =
+  left_by_zero : (old cut new : List ℕ → Type 0) → Only file old → LeftBy (Cut end) old cut → LeftBy (Torn end (0 ∷ [])) cut new → (c : List ℕ) → new c → StandsFor c entries
+  left_by_zero old cut new only cuts follows c left =
       let from = follows c left in
-      torn_end c (subst (λ f. Torn end 1 f c) (only from.0 from.1 ∙ is ∙ cut_done) from.2)
+      let before = cuts from.0 from.1 in
+      let is_cut : Cut end file from.0 = subst (λ f. Cut end f from.0) (only before.0 before.1) before.2 in
+      zero_keeps from.0 c (cut_front from.0 is_cut) (cut_end from.0 is_cut) from.2
 
-  pub closed_is : (cut c : List ℕ) → cut ≡ take end file → HasWritten cut end (0 ∷ []) c → c ≡ at_rest entries
-  closed_is cut c is holds = written_end c (subst (λ f. HasWritten f end (0 ∷ []) c) (is ∙ cut_done) holds)
+  -- what is left of it, and a zero
+  pub closed_again : (mid new : List ℕ) → mid ≡ file → new ≡ take end mid ++ 0 ∷ [] → new ≡ file_blocks batches ++ 0 ∷ []
+  closed_again mid new same is = is ∙ ap (λ (f : List ℕ). take end f ++ 0 ∷ []) same ∙ ap (λ (l : List ℕ). l ++ 0 ∷ []) cut_done
+
+  module _ (new : List ℕ) (is : new ≡ file_blocks batches ++ 0 ∷ []) where
+    pub stands_again : StandsFor new entries
+    stands_again = subst (λ es. StandsFor new es) (sym (joined_read file)) (stands_zeros batches 1 new is (omega arith) size)
+
+    pub rests : IsBlocksAndZeros new
+    rests = record { room = 0; file_is = is ∙ ap (λ (b : List (List (List ℕ))). file_blocks b ++ 0 ∷ []) (sym (batches_zeros batches 1 new is (omega arith) size)) }
+
+  pub settled_again : {D : Type 0} (seen : D → List ℕ) (may_leave : D → List ℕ → Type 0) (new : D) → seen new ≡ file_blocks batches ++ 0 ∷ [] → Only (seen new) (may_leave new) → IsKeptAtRest seen may_leave new end (end + 1)
+  settled_again seen may_leave new is only = kept_zeros batches 1 (seen new) is (omega arith) size seen may_leave new end (end + 1) refl refl e.place (omega (arith, within, small)) only
 
 -- the two steps, over what is seen before them
 module _ {D : Type 0} (seen : D → List ℕ) (may_leave : D → List ℕ → Type 0) (old : D) (end : ℕ) (e : EntriesEndAt (seen old) end) (small : length (seen old) < 2 ^ 63) (only : Only (seen old) (may_leave old))
@@ -101,7 +126,7 @@ module _ {D : Type 0} (seen : D → List ℕ) (may_leave : D → List ℕ → Ty
       calls may_leave moment left_since Stands old old one (begins may_leave moment left_since Stands old only_now (left_by_none (seen old) end e small (may_leave old) only)) time
       (left_by_cut (seen old) end e small (may_leave old) (may_leave one) only crash)
 
-  pub run_shut : (one two three : D) → Run may_leave moment left_since Stands old two → seen one ≡ take end (seen old) → Only (seen one) (may_leave two) → LeftBy (Torn end 1) (may_leave two) (may_leave three)
-      → Elapses (moment two) (moment three) (left_since two) (left_since three) (may_leave three) → Run may_leave moment left_since Stands old three
-  run_shut one two three run is kept crash time =
-      calls may_leave moment left_since Stands old two three run time (left_by_gate (seen old) end e small (seen one) (may_leave two) (may_leave three) is kept crash)
+  pub run_zero : (one two : D) → Run may_leave moment left_since Stands old one → LeftBy (Cut end) (may_leave old) (may_leave one) → LeftBy (Torn end (0 ∷ [])) (may_leave one) (may_leave two)
+      → Elapses (moment one) (moment two) (left_since one) (left_since two) (may_leave two) → Run may_leave moment left_since Stands old two
+  run_zero one two run cuts crash time =
+      calls may_leave moment left_since Stands old one two run time (left_by_zero (seen old) end e small (may_leave old) (may_leave one) (may_leave two) only cuts crash)

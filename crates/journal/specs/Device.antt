@@ -1,6 +1,6 @@
 -- What the calls of a device do to its file, and what a crash may do between two syncs.
-use Rattle.std.specs.Prelude.{◌<◌, ◌≡◌, ◌⊎◌, ℕ, ◌+◌, ◌-◌, ◌≤◌, min, max, List, ◌++◌, length, take, drop, replicate}
-use Rattle.std.specs.Prelude.{Result, IsErrOf}
+use Rattle.std.specs.Prelude.{◌<◌, ◌≡◌, ◌⊎◌, ℕ, ◌+◌, ◌-◌, ◌≤◌, min, max, List, [], ◌∷◌, ◌++◌, length, take, drop}
+use Rattle.std.specs.Prelude.{replicate, Result, IsErrOf, ⊤}
 use Rattle.journal.specs.declared.device.DeviceError.{DeviceError}
 use Rattle.journal.specs.declared.device.DeviceError.TheVariants.{Failed}
 
@@ -8,12 +8,21 @@ use Rattle.journal.specs.declared.device.DeviceError.TheVariants.{Failed}
 abbrev pub HasWritten : List ℕ → ℕ → List ℕ → List ℕ → Type 0
 HasWritten old at bytes new = new ≡ take at old ++ bytes ++ drop (at + length bytes) old
 
--- after a write of n bytes that a crash cuts short: any bytes in the range and past the old end, the same elsewhere
-pub record Torn (at n : ℕ) (old new : List ℕ) : Type 0 where
+-- where bytes were written over old ones, each is the old byte or the written one; past the old ones it is any
+abbrev pub IsMixed : List ℕ → List ℕ → List ℕ → Type 0
+IsMixed [] written new = ⊤
+IsMixed (byte ∷ old) [] new = ⊤
+IsMixed (byte ∷ old) (other ∷ written) [] = ⊥
+IsMixed (byte ∷ old) (other ∷ written) (here ∷ new) = ((here ≡ byte) ⊎ (here ≡ other)) × IsMixed old written new
+
+-- After a write that a crash cuts short: in its range a mixture of what was there and what is written, any bytes
+-- past the old end, and the same elsewhere.
+pub record Torn (at : ℕ) (bytes old new : List ℕ) : Type 0 where
   pub before : take (min at (length old)) new ≡ take at old
-  pub after : drop (at + n) new ≡ drop (at + n) old
+  pub range : IsMixed (drop at old) bytes (drop at new)
+  pub after : drop (at + length bytes) new ≡ drop (at + length bytes) old
   pub no_shorter : length old ≤ length new
-  pub no_longer : length new ≤ max (length old) (at + n)
+  pub no_longer : length new ≤ max (length old) (at + length bytes)
 
 -- After a cut to n that a crash cuts short: some length between, the same bytes below both, and behind n the same
 -- bytes, of which the first may be zeros, as a system fills what is left of a page.

@@ -1,24 +1,43 @@
--- The form of a journal's file: blocks, and a closed gate behind them.
-use Rattle.std.specs.Prelude.{ℕ, ◌-◌, List, [], ◌∷◌, ◌++◌, length, map}
+-- The form of a journal's file: a block for each batch, and zeros behind them.
+use Rattle.std.specs.Prelude.{ℕ, ◌+◌, ◌-◌, ◌==◌, if◌then◌else◌, List, [], ◌∷◌, ◌++◌, length, map, replicate}
 use Rattle.std.specs.Int.{w64, to_be_bytes}
+use Rattle.std.specs.List.{flat_map}
 use Rattle.sha2.specs.Sha256.{sha256}
 
 -- each byte's distance from 255
 abbrev pub complement : List ℕ → List ℕ
 complement bytes = map (λ b. 255 - b) bytes
 
--- eight bytes of the entry's length, their complement, and the entry's digest
+-- how many of the bytes aren't zero
+abbrev pub nonzeros : List ℕ → ℕ
+nonzeros [] = 0
+nonzeros (byte ∷ bytes) = (if byte == 0 then 0 else 1) + nonzeros bytes
+
+abbrev pub zeros : ℕ → List ℕ
+zeros n = replicate n 0
+
+-- an entry, behind eight bytes of its length
+abbrev pub packed_entry : List ℕ → List ℕ
+packed_entry entry = to_be_bytes w64 (length entry) ++ entry
+
+abbrev pub packed : List (List ℕ) → List ℕ
+packed entries = flat_map packed_entry entries
+
+-- how many bytes there are, and how many of them and of their digest aren't zero, in eight bytes each
+unfoldable pub counts : List ℕ → List ℕ
+counts bytes = to_be_bytes w64 (length bytes) ++ to_be_bytes w64 (nonzeros (sha256 bytes ++ bytes))
+
+-- the counts, their complement and the digest of these bytes
 unfoldable pub header : List ℕ → List ℕ
-header entry = to_be_bytes w64 (length entry) ++ complement (to_be_bytes w64 (length entry)) ++ sha256 entry
+header bytes = counts bytes ++ complement (counts bytes) ++ sha256 bytes
 
--- an open gate, the header and the entry
-abbrev pub block : List ℕ → List ℕ
-block entry = 1 ∷ header entry ++ entry
-
+-- what is written of a batch: an open gate, the header and the entries
 abbrev pub blocks : List (List ℕ) → List ℕ
-blocks [] = []
-blocks (entry ∷ entries) = block entry ++ blocks entries
+blocks entries = 1 ∷ header (packed entries) ++ packed entries
 
--- the blocks of these entries, and then a closed gate
-abbrev pub at_rest : List (List ℕ) → List ℕ
-at_rest entries = blocks entries ++ 0 ∷ []
+abbrev pub file_blocks : List (List (List ℕ)) → List ℕ
+file_blocks batches = flat_map blocks batches
+
+-- the entries of batches, in order
+abbrev pub batch_entries : List (List (List ℕ)) → List (List ℕ)
+batch_entries batches = flat_map (λ batch. batch) batches

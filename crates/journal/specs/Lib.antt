@@ -1,6 +1,6 @@
+pub mod Words
 pub mod Device
 pub mod Form
-pub mod Words
 pub mod Block
 pub mod Journal
 pub mod Standing

@@ -1,9 +1,10 @@
 -- What a recovery reads, and why it is refused.
-use Rattle.std.specs.Prelude.{◌≡◌, ◌⊎◌, ◌<◌, ◌≤◌, ℕ, Bool, true, List, ◌++◌, length, take, drop, Option, Some, Vec, ⊤}
-use Rattle.std.specs.declared.alloc.Global.{Global}
-use Rattle.journal.specs.Form.{blocks}
+use Rattle.std.specs.Prelude.{◌≡◌, ◌⊎◌, ◌<◌, ◌≤◌, ℕ, Bool, true, List, ◌++◌, length, take, drop, Option, Some, ⊤}
+use Rattle.journal.specs.Form.{file_blocks}
 use Rattle.journal.specs.Block.{what_begins, reading}
-use Rattle.journal.specs.Journal.{entries_read}
+use Rattle.journal.specs.Journal.{batches_read}
+use Rattle.journal.specs.Words.{bytes_of_each}
+use Rattle.journal.specs.declared.block.Batch.{Batch}
 use Rattle.journal.specs.declared.block.First.{First}
 use Rattle.journal.specs.declared.block.First.TheVariants.{End, Whole, Damaged}
 use Rattle.journal.specs.declared.error.RecoverError.{RecoverError}
@@ -36,12 +37,12 @@ LeavesAlone (Refused refusal) only_reads = only_reads
 
 -- Private: the whole blocks of a file end at this place, and what stands there is its end
 pub record EntriesEndAt (file : List ℕ) (end : ℕ) : Type 0 where
-  pub split : file ≡ blocks (entries_read file) ++ drop end file
-  pub place : length (blocks (entries_read file)) ≡ end
+  pub split : file ≡ file_blocks (batches_read file) ++ drop end file
+  pub place : length (file_blocks (batches_read file)) ≡ end
   pub nothing : what_begins (drop end file) ≡ End
 
--- Private: the bytes of a whole block's entry
-abbrev pub entry_bytes : First (Vec ℕ Global) → First (List ℕ)
-entry_bytes End = End
-entry_bytes (Whole entry) = Whole entry.items
-entry_bytes Damaged = Damaged
+-- Private: the entries of a whole block
+abbrev pub batch_bytes : First Batch → First (List (List ℕ))
+batch_bytes End = End
+batch_bytes (Whole batch) = Whole (bytes_of_each batch.entries.items)
+batch_bytes Damaged = Damaged

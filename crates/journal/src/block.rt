@@ -1,7 +1,9 @@
-// Blocks: what is written of an entry, and what bytes of a file begin with.
-ghost use Rattle.std.specs.Prelude.{◌≡◌, ◌<◌, ◌++◌, List, ℕ, length, take, OnOk, IfOk, MatchOption};
-ghost use Rattle.journal.specs.Form.{header, block, complement, at_rest};
-ghost use Rattle.journal.specs.Block.{said_length, mirrors, length_fits, head_says};
+// Blocks: what is written of a batch, and what bytes of a file begin with.
+ghost use Rattle.std.specs.Prelude.{◌≡◌, ◌≤◌, ◌<◌, ◌^◌, ◌++◌, List, ℕ, length, take, OnOk, IfOk};
+ghost use Rattle.std.specs.Prelude.{drop, IfSome, MatchOption};
+ghost use Rattle.journal.specs.Form.{nonzeros, packed, header, blocks, complement};
+ghost use Rattle.journal.specs.Block.{said_number, mirrors, mirrored, counts_fit, counts_torn};
+ghost use Rattle.journal.specs.Block.{head_says, entries_packed};
 ghost use Rattle.journal.specs.Words.{bytes_of_each};
 
 use sha2::{Digest, Sha256};
@@ -12,7 +14,7 @@ pub(crate) const OPEN: u8 = 1;
 pub(crate) const CLOSED: u8 = 0;
 
 // The gate and the header.
-pub(crate) const HEAD_BYTES: usize = 49;
+pub(crate) const HEAD_BYTES: usize = 65;
 
 /// What bytes of a file begin with.
 #[derive(Drop)]
@@ -20,6 +22,27 @@ pub(crate) enum First<E> {
     End,
     Whole(E),
     Damaged,
+}
+
+/// The entries of a whole block, and the block's length.
+#[derive(Drop)]
+pub(crate) struct Batch {
+    pub entries: Vec<Vec<u8>>,
+    pub len: usize,
+    ghost sized: { len ≡ length (blocks (bytes_of_each entries.items)) },
+}
+
+/// How many of the bytes aren't zero.
+pub(crate) fn count_nonzeros(bytes: &[u8]) -> usize
+    ensures { result ≡ nonzeros bytes.now }
+{
+    let mut count = 0;
+    for byte in bytes {
+        if *byte != 0 {
+            count += 1;
+        }
+    }
+    count
 }
 
 fn push_complement(out: &mut Vec<u8>, bytes: &[u8]) -> Result<(), AllocError>
@@ -31,44 +54,41 @@ fn push_complement(out: &mut Vec<u8>, bytes: &[u8]) -> Result<(), AllocError>
     Ok(())
 }
 
-fn push_header(out: &mut Vec<u8>, entry: &[u8]) -> Result<(), AllocError>
-    ensures { OnOk result (out.new.items ≡ out.old.items ++ header entry.now) }
+fn push_header(out: &mut Vec<u8>, bytes: &[u8]) -> Result<(), AllocError>
+    requires { length bytes.now < 2 ^ 63 }
+    ensures { OnOk result (out.new.items ≡ out.old.items ++ header bytes.now) }
 {
-    let len = (entry.len() as u64).to_be_bytes();
-    let digest = Sha256::digest(entry);
+    let digest = Sha256::digest(bytes);
+    let len = (bytes.len() as u64).to_be_bytes();
+    let count = ((count_nonzeros(&digest) + count_nonzeros(bytes)) as u64).to_be_bytes();
     out.extend_from_slice(&len)?;
+    out.extend_from_slice(&count)?;
     push_complement(out, &len)?;
+    push_complement(out, &count)?;
     out.extend_from_slice(&digest)?;
     Ok(())
 }
 
-fn push_block(out: &mut Vec<u8>, entry: &[u8]) -> Result<(), AllocError>
-    ensures { OnOk result (out.new.items ≡ out.old.items ++ block entry.now) }
-{
-    out.push(OPEN)?;
-    push_header(out, entry)?;
-    out.extend_from_slice(entry)?;
-    Ok(())
-}
-
-/// The header of an entry.
-pub(crate) fn header_of(alloc: Global, entry: &[u8]) -> Result<Vec<u8>, AllocError>
-    ensures { IfOk result (λ bytes. bytes.items ≡ header entry.now) }
-{
-    let mut bytes = Vec::new(alloc);
-    push_header(&mut bytes, entry)?;
-    Ok(bytes)
-}
-
-/// The blocks of these entries, and a closed gate.
-pub(crate) fn bytes_at_rest(alloc: Global, entries: &[Vec<u8>]) -> Result<Vec<u8>, AllocError>
-    ensures { IfOk result (λ bytes. bytes.items ≡ at_rest (bytes_of_each entries.now)) }
+fn packed_bytes(alloc: Global, entries: &[Vec<u8>]) -> Result<Vec<u8>, AllocError>
+    ensures { IfOk result (λ bytes. bytes.items ≡ packed (bytes_of_each entries.now)) }
 {
     let mut bytes = Vec::new(alloc);
     for entry in entries {
-        push_block(&mut bytes, entry)?;
+        bytes.extend_from_slice(&(entry.len() as u64).to_be_bytes())?;
+        bytes.extend_from_slice(entry)?;
     }
-    bytes.push(CLOSED)?;
+    Ok(bytes)
+}
+
+/// What is written of a batch.
+pub(crate) fn block_of(alloc: Global, entries: &[Vec<u8>]) -> Result<Vec<u8>, AllocError>
+    ensures { IfOk result (λ bytes. bytes.items ≡ blocks (bytes_of_each entries.now)) }
+{
+    let body = packed_bytes(alloc, entries)?;
+    let mut bytes = Vec::new(alloc);
+    bytes.push(OPEN)?;
+    push_header(&mut bytes, &body)?;
+    bytes.extend_from_slice(&body)?;
     Ok(bytes)
 }
 
@@ -84,16 +104,47 @@ fn is_mirror(bytes: &[u8], mirror: &[u8]) -> bool
     *other == 255 - *byte && is_mirror(bytes, mirror)
 }
 
-fn is_fitting(behind: &[u8]) -> bool
-    ensures { result ≡ length_fits behind.now }
+fn was_mirror(bytes: &[u8], mirror: &[u8]) -> bool
+    ensures { result ≡ mirrored bytes.now mirror.now }
 {
-    let (bytes, rest) = behind.split_at(behind.len().min(8));
-    let (mirror, _) = rest.split_at(rest.len().min(8));
+    let [byte, bytes @ ..] = bytes else {
+        return true;
+    };
+    let [other, mirror @ ..] = mirror else {
+        return true;
+    };
+    (*other == 255 - *byte || *byte == 0 || *other == 0) && was_mirror(bytes, mirror)
+}
+
+// The counts, and what should be their complement.
+fn halves(behind: &[u8]) -> (&[u8], &[u8])
+    ensures counts { result.0.now ≡ take 16 behind.now }
+    ensures mirror { result.1.now ≡ take 16 (drop 16 behind.now) }
+{
+    let (bytes, rest) = behind.split_at(behind.len().min(16));
+    let (mirror, _) = rest.split_at(rest.len().min(16));
+    (bytes, mirror)
+}
+
+fn is_fitting(behind: &[u8]) -> bool
+    ensures { result ≡ counts_fit behind.now }
+{
+    let (bytes, mirror) = halves(behind);
     is_mirror(bytes, mirror)
 }
 
-fn length_said(behind: &[u8]) -> Option<usize>
-    ensures { MatchOption result (length behind.now < 8) (λ len. len ≡ said_length behind.now) }
+fn is_torn(behind: &[u8]) -> bool
+    ensures { result ≡ counts_torn behind.now }
+{
+    let (bytes, mirror) = halves(behind);
+    was_mirror(bytes, mirror)
+}
+
+/// The number that the first eight bytes say.
+pub(crate) fn number_said(behind: &[u8]) -> Option<usize>
+    ensures said { MatchOption result (length behind.now < 8)
+        (λ n. n ≡ said_number behind.now) }
+    ensures enough { IfSome result (λ _. 8 ≤ length behind.now) }
 {
     let [a, b, c, d, e, f, g, h, ..] = behind else {
         return None;
@@ -101,23 +152,42 @@ fn length_said(behind: &[u8]) -> Option<usize>
     Some(u64::from_be_bytes([*a, *b, *c, *d, *e, *f, *g, *h]) as usize)
 }
 
-/// What the bytes say that have this head, `left` of them: the length of an entry that they have
+/// What the bytes say that have this head, `left` of them: the length of a batch that they have
 /// room for, the end, or damage.
 pub(crate) fn read_head(head: &[u8], left: usize) -> First<usize>
-    ensures { (bytes : List ℕ) → head.now ≡ take 49 bytes → left ≡ length bytes
+    ensures { (bytes : List ℕ) → head.now ≡ take 65 bytes → left ≡ length bytes
         → result ≡ head_says bytes }
 {
     let [OPEN, behind @ ..] = head else {
         return First::End;
     };
     if !is_fitting(behind) {
-        return First::Damaged;
+        return if is_torn(behind) {
+            First::End
+        } else {
+            First::Damaged
+        };
     }
-    let Some(len) = length_said(behind) else {
+    let Some(len) = number_said(behind) else {
         return First::End;
     };
     if left < HEAD_BYTES || len > left - HEAD_BYTES {
         return First::End;
     }
     First::Whole(len)
+}
+
+/// The entries that these bytes are packed of.
+pub(crate) fn unpacked_entries(alloc: Global, bytes: &[u8]) -> Result<Vec<Vec<u8>>, AllocError>
+    ensures { IfOk result (λ entries. bytes_of_each entries.items ≡ entries_packed bytes.now) }
+{
+    let mut entries = Vec::new(alloc);
+    let mut at = 0;
+    while let Some(len) = number_said(&bytes[at..]) {
+        at += 8;
+        let end = at + len.min(bytes.len() - at);
+        entries.push(bytes[at..end].to_vec(alloc)?)?;
+        at = end;
+    }
+    Ok(entries)
 }

@@ -72,12 +72,13 @@ pub trait Device {
             (left_since self.old) (left_since self.new) (may_leave self.new) }
         ensures cause { HasCause (faults self.old) (faults self.new) result };
 
-    /// Writes over what is there, and past the end. Until a sync, a crash may leave any bytes in
-    /// the range.
+    /// Writes over what is there, and past the end. Until a sync, a crash may leave each byte in
+    /// the range as it was or as it is written, and any bytes past the end that the file has on the
+    /// disk.
     fn write_at(&mut self, at: usize, bytes: &[u8]) -> Result<(), DeviceError>
         requires { at ≤ length (seen self.old) }
         ensures written { OnOk result (HasWritten (seen self.old) at bytes.now (seen self.new)) }
-        ensures crash { LeftBy (Torn at (length bytes.now)) (may_leave self.old)
+        ensures crash { LeftBy (Torn at bytes.now) (may_leave self.old)
             (may_leave self.new) }
         ensures time { Elapses (moment self.old) (moment self.new)
             (left_since self.old) (left_since self.new) (may_leave self.new) }

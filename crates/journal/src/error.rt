@@ -47,6 +47,16 @@ pub enum RecoverError<R> {
     Refused(R),
 }
 
+impl<R> From<AllocError> for RecoverError<R> {
+    ghost use Rattle.journal.specs.declared.error.RecoverError.TheVariants as recover;
+
+    ghost from_gives = { λ _ made. made ≡ recover.Memory };
+
+    fn from(_: AllocError) -> Self {
+        RecoverError::Memory
+    }
+}
+
 impl<R> From<DeviceError> for RecoverError<R> {
     ghost from_gives = { λ error made. made ≡ recover_error error };
 

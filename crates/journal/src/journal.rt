@@ -1,51 +1,97 @@
 // A journal that is open for appends.
-ghost use Rattle.std.specs.Prelude.{◌≡◌, ◌<◌, ◌≤◌, ◌+◌, ◌^◌, ◌++◌, [], ◌∷◌, List, ℕ, length, take};
-ghost use Rattle.std.specs.Prelude.{true, OnOk, IsErrOf};
+ghost use Rattle.std.specs.Prelude.{◌≡◌, ◌<◌, ◌≤◌, ◌+◌, ◌^◌, ◌++◌, [], ◌∷◌, List, ℕ, length};
+ghost use Rattle.std.specs.Prelude.{true, OnOk, IfOk, IsErrOf};
 ghost use Rattle.journal.specs.Device.{Only, LeavesOnly, HasCause};
-ghost use Rattle.journal.specs.Form.{at_rest};
-ghost use Rattle.journal.specs.Journal.{IsKeptAtRest, IsClosedAt, IsFrontOrAll};
+ghost use Rattle.journal.specs.Form.{zeros, blocks};
+ghost use Rattle.journal.specs.Block.{StandsFor};
+ghost use Rattle.journal.specs.Journal.{IsKeptAtRest, IsBeforeOrAfter};
 ghost use Rattle.journal.specs.Journal.{IsBeforeOrNone, entries_read};
 
-use crate::block::{CLOSED, OPEN, bytes_at_rest};
+use crate::block::{CLOSED, block_of};
 use crate::{AppendError, Device, DeviceError};
-use std::alloc::Global;
+use std::alloc::{AllocError, Global};
 
 // No file of which a device tells the length is longer.
 const MAX_BYTES: usize = (1 << 63) - 1;
+
+// So many zeros are written ahead of the blocks where their room is used up.
+const ROOM: usize = 1 << 16;
 
 /// The entries of a file, to which more can be added. After a failure of the device it is broken,
 /// and takes none.
 #[derive(Drop)]
 pub struct Journal<D: Device> {
     device: D,
+    // Where the blocks end.
     end: usize,
+    // Where the zeros behind them end, and with them the file.
+    len: usize,
     is_open: bool,
-    ghost settled: { is_open ≡ true → IsKeptAtRest D.seen D.may_leave device end },
+    ghost settled: { is_open ≡ true → IsKeptAtRest D.seen D.may_leave device end len },
 }
 
-// Writes these bytes behind the file's closed gate, and then opens it.
-fn add<D: Device>(device: &mut D, gate: usize, body: &[u8]) -> Result<(), DeviceError>
-    requires closed { IsClosedAt D.seen D.may_leave device.old gate }
-    requires small { gate < 2 ^ 63 }
-    ensures added { OnOk result
-        (D.seen device.new ≡ take gate (D.seen device.old) ++ 1 ∷ body.now) }
-    ensures durable { OnOk result (Only (D.seen device.new) (D.may_leave device.new)) }
+// The zeros by which a file of this length has to grow, so that it has room up to a place and one
+// zero more.
+fn growth(alloc: Global, len: usize, place: usize) -> Result<Vec<u8>, AllocError>
+    requires small { len ≤ 2 ^ 63 }
+    requires within { place + 1 < 2 ^ 63 }
+    ensures items { IfOk result (λ v. v.items ≡ zeros (length v.items)) }
+    ensures room { IfOk result (λ v. place < len + length v.items) }
+    ensures bound { IfOk result (λ v. len + length v.items ≤ 2 ^ 63) }
+{
+    if place < len {
+        return Ok(Vec::new(alloc));
+    }
+    let most = MAX_BYTES - len;
+    let wanted = (place - len + 1).max(ROOM.min(most));
+    Vec::from_elem(alloc, 0, wanted)
+}
+
+// Writes zeros at the file's end.
+fn grow<D: Device>(device: &mut D, end: usize, len: usize, more: &[u8]) -> Result<(), DeviceError>
+    requires kept { IsKeptAtRest D.seen D.may_leave device.old end len }
+    requires zeros { more.now ≡ zeros (length more.now) }
+    requires small { len + length more.now ≤ 2 ^ 63 }
+    ensures grown { OnOk result
+        (IsKeptAtRest D.seen D.may_leave device.new end (len + length more.now)) }
+    ensures same { OnOk result
+        (entries_read (D.seen device.new) ≡ entries_read (D.seen device.old)) }
     ensures any_moment { LeavesOnly D.moment D.left_since device.old device.new
-        (IsFrontOrAll (take gate (D.seen device.old)) body.now) }
+        (λ c. StandsFor c (entries_read (D.seen device.old))) }
     ensures cause { HasCause (D.faults device.old) (D.faults device.new) result }
     ensures fed { IsErrOf result DeviceError.Memory → D.wants_memory ≡ true }
 {
-    device.write_at(gate + 1, body)?;
-    device.sync()?; // What stands behind the gate is on the disk before it is opened,
-    device.write_at(gate, &[OPEN])?;
-    device.sync()?; // and the gate before the batch is acknowledged.
+    if more.is_empty() {
+        return Ok(());
+    }
+    device.write_at(len, more)?;
+    device.sync()?; // The zeros are on the disk before a block is written over them.
+    Ok(())
+}
+
+// Writes a block over zeros behind the blocks.
+fn add<D: Device>(device: &mut D, end: usize, len: usize, block: &[u8]) -> Result<(), DeviceError>
+    requires kept { IsKeptAtRest D.seen D.may_leave device.old end len }
+    requires room { end + length block.now < len }
+    ensures added { (batch : List (List ℕ)) → block.now ≡ blocks batch → OnOk result
+        (StandsFor (D.seen device.new) (entries_read (D.seen device.old) ++ batch)) }
+    ensures kept { (batch : List (List ℕ)) → block.now ≡ blocks batch → OnOk result
+        (IsKeptAtRest D.seen D.may_leave device.new (end + length block.now) len) }
+    ensures any_moment { (batch : List (List ℕ)) → block.now ≡ blocks batch
+        → LeavesOnly D.moment D.left_since device.old device.new
+        (IsBeforeOrAfter (entries_read (D.seen device.old)) batch) }
+    ensures cause { HasCause (D.faults device.old) (D.faults device.new) result }
+    ensures fed { IsErrOf result DeviceError.Memory → D.wants_memory ≡ true }
+{
+    device.write_at(end, block)?;
+    device.sync()?; // The block is on the disk before the batch is acknowledged.
     Ok(())
 }
 
 // Shuts the file's first gate, so that it stands for no entry, and then cuts off what follows.
-fn empty<D: Device>(device: &mut D, end: usize) -> Result<(), DeviceError>
-    requires { IsKeptAtRest D.seen D.may_leave device.old end }
-    ensures emptied { OnOk result (D.seen device.new ≡ at_rest []) }
+fn empty<D: Device>(device: &mut D, end: usize, len: usize) -> Result<(), DeviceError>
+    requires { IsKeptAtRest D.seen D.may_leave device.old end len }
+    ensures emptied { OnOk result (D.seen device.new ≡ 0 ∷ []) }
     ensures durable { OnOk result (Only (D.seen device.new) (D.may_leave device.new)) }
     ensures any_moment { LeavesOnly D.moment D.left_since device.old device.new
         (IsBeforeOrNone (entries_read (D.seen device.old))) }
@@ -61,22 +107,20 @@ fn empty<D: Device>(device: &mut D, end: usize) -> Result<(), DeviceError>
 
 impl<D: Device> Journal<D> {
     ghost use Rattle.std.specs.Prelude.{false, IfErr};
-    ghost use Rattle.journal.specs.Form.{blocks};
-    ghost use Rattle.journal.specs.Block.{StandsFor};
     ghost use Rattle.journal.specs.Words.{bytes_of_each};
-    ghost use Rattle.journal.specs.Journal.{IsBeforeOrAfter};
     ghost use Rattle.journal.specs.Standing.{device_of, is_open};
     ghost use Rattle.journal.specs.Told.{IsOfClear};
 
     // The journal of a file that is at rest.
-    pub(crate) fn at_rest(device: D, end: usize) -> Self
-        requires { IsKeptAtRest D.seen D.may_leave device end }
+    pub(crate) fn at_rest(device: D, end: usize, len: usize) -> Self
+        requires { IsKeptAtRest D.seen D.may_leave device end len }
         ensures device { device_of result ≡ device }
         ensures ok { is_open result ≡ true }
     {
         Journal {
             device,
             end,
+            len,
             is_open: true,
         }
     }
@@ -95,6 +139,7 @@ impl<D: Device> Journal<D> {
         let Journal {
             device,
             end: _,
+            len: _,
             is_open: _,
         } = self;
         device
@@ -139,15 +184,20 @@ impl<D: Device> Journal<D> {
         if entries.is_empty() {
             return Ok(());
         }
-        let bytes = bytes_at_rest(alloc, entries)?;
-        if bytes.len() > MAX_BYTES - self.end {
+        let block = block_of(alloc, entries)?;
+        if block.len() >= MAX_BYTES - self.end {
             return Err(AppendError::Full);
         }
+        let more = growth(alloc, self.len, self.end + block.len())?;
         self.is_open = false;
-        if let Err(error) = add(&mut self.device, self.end, &bytes[1..]) {
+        if let Err(refused) = grow(&mut self.device, self.end, self.len, &more) {
+            return Err(AppendError::Device(refused));
+        }
+        self.len += more.len();
+        if let Err(error) = add(&mut self.device, self.end, self.len, &block) {
             return Err(AppendError::Device(error));
         }
-        self.end += bytes.len() - 1;
+        self.end += block.len();
         self.is_open = true;
         Ok(())
     }
@@ -179,10 +229,11 @@ impl<D: Device> Journal<D> {
             return Err(AppendError::Broken);
         }
         self.is_open = false;
-        if let Err(fault) = empty(&mut self.device, self.end) {
+        if let Err(fault) = empty(&mut self.device, self.end, self.len) {
             return Err(AppendError::Device(fault));
         }
         self.end = 0;
+        self.len = 1;
         self.is_open = true;
         Ok(())
     }

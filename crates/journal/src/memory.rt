@@ -1,7 +1,9 @@
 // A file in memory. Each call is done at once, so a crash leaves what is there. It keeps each past
 // content.
-ghost use Rattle.std.specs.Prelude.{◌≡◌, ◌⊎◌, [], ◌∷◌, ◌++◌, length, drop, true, OnOk, OnErr};
+ghost use Rattle.std.specs.Prelude.{◌≡◌, ◌≤◌, ◌⊎◌, [], ◌∷◌, ◌++◌, length, drop, true};
+ghost use Rattle.std.specs.Prelude.{IfOk, OnOk, OnErr};
 ghost use Rattle.std.proofs.Common.{inl};
+ghost use Rattle.journal.specs.Device.{HasWritten};
 ghost use Rattle.journal.specs.Past.{HadBeen, only_contents};
 
 use crate::{Device, DeviceError};
@@ -35,6 +37,19 @@ impl Memory {
     {
         &self.bytes
     }
+}
+
+// The old bytes with others written at a place.
+fn written(alloc: Global, old: &[u8], at: usize, bytes: &[u8]) -> Result<Vec<u8>, AllocError>
+    requires { at ≤ length old.now }
+    ensures { IfOk result (λ v. HasWritten old.now at bytes.now v.items) }
+{
+    let mut next = old[..at].to_vec(alloc)?;
+    next.extend_from_slice(bytes)?;
+    if bytes.len() < old.len() - at {
+        next.extend_from_slice(&old[at + bytes.len()..])?;
+    }
+    Ok(next)
 }
 
 // Puts other bytes in the place of those that are there, which it keeps.
@@ -83,11 +98,7 @@ impl Device for Memory {
     }
 
     fn write_at(&mut self, at: usize, bytes: &[u8]) -> Result<(), DeviceError> {
-        let mut next = self.bytes[..at].to_vec(self.alloc)?;
-        next.extend_from_slice(bytes)?;
-        if bytes.len() < self.bytes.len() - at {
-            next.extend_from_slice(&self.bytes[at + bytes.len()..])?;
-        }
+        let next = written(self.alloc, &self.bytes, at, bytes)?;
         Ok(replace(self.alloc, &mut self.bytes, &mut self.past, next)?)
     }
 

@@ -1,31 +1,58 @@
 // Reads the entries of a file that a crash may have left, and repairs its end.
-ghost use Rattle.std.specs.Prelude.{◌≡◌, ◌<◌, ◌≤◌, ◌^◌, ◌++◌, List, ℕ, length, drop, true, None};
-ghost use Rattle.std.specs.Prelude.{IfOk, IfErr, OnOk, if◌then◌else◌, bytes_eq};
+ghost use Rattle.std.specs.Prelude.{◌≡◌, ◌<◌, ◌≤◌, ◌+◌, ◌^◌, [], ◌∷◌, ◌++◌, List, ℕ, length};
+ghost use Rattle.std.specs.Prelude.{take, drop, true, Option, None, IfOk, IfErr, OnOk};
+ghost use Rattle.std.specs.Prelude.{if◌then◌else◌, bytes_eq};
 ghost use Rattle.journal.specs.declared.block.First.TheVariants.{Whole, Damaged};
+ghost use Rattle.journal.specs.Form.{blocks};
 ghost use Rattle.journal.specs.Device.{Only, LeavesOnly, HasCause, Reads};
-ghost use Rattle.journal.specs.Form.{header, at_rest};
-ghost use Rattle.journal.specs.Block.{reading, what_begins, StandsFor};
-ghost use Rattle.journal.specs.Journal.{entries_read, damage_read, IsKeptAtRest};
+ghost use Rattle.journal.specs.Block.{reading, tested, what_begins, StandsFor};
+ghost use Rattle.journal.specs.Journal.{entries_read, damage_read, IsBlocksAndZeros, IsKeptAtRest};
 ghost use Rattle.journal.specs.Standing.{device_of, is_open};
+ghost use Rattle.journal.specs.Words.{bytes_of_each};
 ghost use Rattle.journal.specs.Recovery.{IsAsBefore, TookFirst, HasReason, LeavesAlone};
-ghost use Rattle.journal.specs.Recovery.{EntriesEndAt, entry_bytes};
+ghost use Rattle.journal.specs.Recovery.{EntriesEndAt, batch_bytes};
 
-use crate::block::{CLOSED, First, HEAD_BYTES, header_of, read_head};
+use crate::block::{
+    Batch, CLOSED, First, HEAD_BYTES, block_of, count_nonzeros, number_said, read_head,
+    unpacked_entries,
+};
 use crate::{Device, DeviceError, Journal, RecoverError, Sink, Unrecovered};
 use std::alloc::{AllocError, Global};
 
-// The entry, if the header behind the head's gate is its own.
-fn test_entry(alloc: Global, head: &[u8], entry: Vec<u8>) -> Result<First<Vec<u8>>, AllocError>
-    requires { 1 ≤ length head.now }
-    ensures { IfOk result (λ f. entry_bytes f ≡ (if bytes_eq (drop 1 head.now) (header entry.items)
-        then Whole entry.items else Damaged)) }
+// The batch of these entries, if the block is what is written of it.
+fn test_entries(
+    alloc: Global,
+    block: &[u8],
+    entries: Vec<Vec<u8>>,
+) -> Result<First<Batch>, AllocError>
+    ensures { IfOk result (λ f. batch_bytes f
+        ≡ (if bytes_eq block.now (blocks (bytes_of_each entries.items))
+        then Whole (bytes_of_each entries.items) else Damaged)) }
 {
-    let header = header_of(alloc, &entry)?;
-    if &head[1..] == header.as_slice() {
-        Ok(First::Whole(entry))
+    let bytes = block_of(alloc, &entries)?;
+    if block == bytes.as_slice() {
+        let len = block.len();
+        Ok(First::Whole(Batch { entries, len }))
     } else {
         Ok(First::Damaged)
     }
+}
+
+// The batch of a block whose counts fit their complement.
+fn test_block(alloc: Global, block: &[u8]) -> Result<First<Batch>, AllocError>
+    requires { 65 ≤ length block.now }
+    ensures { IfOk result (λ f. batch_bytes f ≡ tested block.now) }
+{
+    let Some(count) = number_said(&block[9..]) else {
+        return Ok(First::End);
+    };
+    // A crash left zeros in the place of other bytes.
+    if count_nonzeros(&block[33..]) < count {
+        return Ok(First::End);
+    }
+    let entries = unpacked_entries(alloc, &block[HEAD_BYTES..])?;
+    let found = test_entries(alloc, block, entries)?;
+    Ok(found)
 }
 
 // What stands at a place of a file of this length.
@@ -34,11 +61,11 @@ fn read_block<D: Device>(
     device: &mut D,
     at: usize,
     len: usize,
-) -> Result<First<Vec<u8>>, DeviceError>
+) -> Result<First<Batch>, DeviceError>
     requires all { len ≡ length (D.seen device.old) }
     requires within { at ≤ len }
     requires small { len < 2 ^ 63 }
-    ensures found { IfOk result (λ f. entry_bytes f ≡ what_begins (drop at (D.seen device.old))) }
+    ensures found { IfOk result (λ f. batch_bytes f ≡ what_begins (drop at (D.seen device.old))) }
     ensures reads { Reads D.seen D.may_leave D.moment D.left_since device.old device.new }
     ensures cause { HasCause (D.faults device.old) (D.faults device.new) result }
 {
@@ -47,29 +74,46 @@ fn read_block<D: Device>(
         First::End => Ok(First::End),
         First::Damaged => Ok(First::Damaged),
         First::Whole(size) => {
-            let entry = device.read_at(alloc, at + HEAD_BYTES, size)?;
-            Ok(test_entry(alloc, &head, entry)?)
+            let block = device.read_at(alloc, at, HEAD_BYTES + size)?;
+            Ok(test_block(alloc, &block)?)
         }
     }
 }
 
-// Cuts off what stands for nothing, and closes the file.
+// Cuts off what stands for nothing, and puts a zero there.
 fn close<D: Device>(device: &mut D, end: usize) -> Result<(), DeviceError>
     requires ends { EntriesEndAt (D.seen device.old) end }
     requires small { length (D.seen device.old) < 2 ^ 63 }
     requires durable { Only (D.seen device.old) (D.may_leave device.old) }
-    ensures closed { OnOk result (D.seen device.new ≡ at_rest (entries_read (D.seen device.old))) }
+    ensures closed { OnOk result (D.seen device.new ≡ take end (D.seen device.old) ++ 0 ∷ []) }
     ensures durable { OnOk result (Only (D.seen device.new) (D.may_leave device.new)) }
     ensures any_moment { LeavesOnly D.moment D.left_since device.old device.new
         (λ c. StandsFor c (entries_read (D.seen device.old))) }
     ensures cause { HasCause (D.faults device.old) (D.faults device.new) result }
 {
     device.cut(end)?;
-    // The cut has to be on the disk first: behind a gate that is torn open, what was there would
-    // count.
-    device.sync()?;
     device.write_at(end, &[CLOSED])?;
-    device.sync()?;
+    device.sync()?; // Nothing is left there before a block is written.
+    Ok(())
+}
+
+// Hands the entries of a batch to the sink.
+fn hand_over<S: Sink>(
+    alloc: Global,
+    entries: &[Vec<u8>],
+    sink: &mut S,
+) -> Result<(), RecoverError<S::Refusal>>
+    ensures took { OnOk result (S.took sink.new ≡ S.took sink.old ++ bytes_of_each entries.now) }
+    ensures took_first { TookFirst (S.took sink.old) (S.took sink.new)
+        (bytes_of_each entries.now) }
+    ensures reason { IfErr result (λ error. (f g : ℕ) (damage : Option ℕ)
+        → HasReason f g (S.has_refused sink.new) damage error) }
+{
+    for entry in entries {
+        if let Err(refusal) = sink.take(alloc, entry.to_vec(alloc)?) {
+            return Err(RecoverError::Refused(refusal));
+        }
+    }
     Ok(())
 }
 
@@ -98,10 +142,10 @@ fn replay<D: Device, S: Sink>(
         match read_block(alloc, device, at, len)? {
             First::End => return Ok(at),
             First::Damaged => return Err(RecoverError::Damage(at)),
-            First::Whole(entry) => {
-                at += HEAD_BYTES + entry.len();
-                if let Err(refusal) = sink.take(alloc, entry) {
-                    return Err(RecoverError::Refused(refusal));
+            First::Whole(batch) => {
+                at += batch.len;
+                if let Err(error) = hand_over(alloc, &batch.entries, sink) {
+                    return Err(error);
                 }
             }
         }
@@ -114,8 +158,9 @@ fn repair<D: Device, S: Sink>(
     device: &mut D,
     sink: &mut S,
 ) -> Result<usize, RecoverError<S::Refusal>>
-    ensures settled { IfOk result (λ end. IsKeptAtRest D.seen D.may_leave device.new end) }
-    ensures at_rest { OnOk result (D.seen device.new ≡ at_rest (entries_read (D.seen device.old))) }
+    ensures settled { IfOk result
+        (λ end. IsKeptAtRest D.seen D.may_leave device.new end (end + 1)) }
+    ensures at_rest { OnOk result (IsBlocksAndZeros (D.seen device.new)) }
     ensures same { OnOk result (StandsFor (D.seen device.new) (entries_read (D.seen device.old))) }
     ensures whole { OnOk result (StandsFor (D.seen device.old)
         (entries_read (D.seen device.old))) }
@@ -151,8 +196,7 @@ pub fn recover<D: Device, S: Sink>(
     // The file is at rest then, with the same entries, all of it on the disk.
     ensures same { IfOk result (λ journal. StandsFor (D.seen (device_of journal))
         (entries_read (D.seen device))) }
-    ensures at_rest { IfOk result (λ journal. D.seen (device_of journal)
-        ≡ at_rest (entries_read (D.seen device))) }
+    ensures at_rest { IfOk result (λ journal. IsBlocksAndZeros (D.seen (device_of journal))) }
     ensures durable { IfOk result (λ journal. Only (D.seen (device_of journal))
         (D.may_leave (device_of journal))) }
     ensures ok { IfOk result (λ journal. is_open journal ≡ true) }
@@ -178,7 +222,7 @@ pub fn recover<D: Device, S: Sink>(
 {
     let mut device = device;
     match repair(alloc, &mut device, sink) {
-        Ok(end) => Ok(Journal::at_rest(device, end)),
+        Ok(end) => Ok(Journal::at_rest(device, end, end + 1)),
         Err(error) => Err(Unrecovered { device, error }),
     }
 }

@@ -1,7 +1,5 @@
 -- What is so after one more call on a file.
-use Rattle.std.proofs.Common.{ℕ, List, ◌∷◌, refl, sym, subst, arith}
-use Rattle.std.proofs.lemmas.List.{take_min}
-use Rattle.journal.specs.Device.{Torn}
+use Rattle.std.proofs.Common.{ℕ, List, ◌∷◌, sym, subst}
 use Rattle.journal_file.specs.Files.{NotedCall, unmade, may_leave}
 use Rattle.journal_file.specs.Histories.{HasGone}
 use Rattle.journal_file.specs.declared.history.History.{History}
@@ -10,9 +8,6 @@ use Rattle.journal_file.specs.declared.history.History.{History}
 pub on : (P : List ℕ → List NotedCall → Type 0) (old new : History) (e : NotedCall) → HasGone old new e → P old.first (e ∷ old.calls) → P new.first new.calls
 on P old new e gone here =
     subst (λ (es : List NotedCall). P new.first es) (sym gone.calls) (subst (λ (first : List ℕ). P first (e ∷ old.calls)) (sym gone.first) here)
-
-pub torn_none : (at n : ℕ) (c : List ℕ) → Torn at n c c
-torn_none at n c = record { before = take_min at c; after = refl; no_shorter = omega arith; no_longer = omega arith }
 
 -- a call that isn't made leaves what was left before
 pub crash_refused : (old new : History) → HasGone old new unmade → (c : List ℕ) → may_leave new.first new.calls c → may_leave old.first old.calls c

@@ -38,17 +38,17 @@ left_by_sync true seen old c = c ≡ seen
 left_by_sync false seen old c = old c
 
 -- what a crash may leave after a call, done or not, where it might have left what is old
-abbrev pub left_after : Kind → ℕ → ℕ → Bool → List ℕ → (List ℕ → Type 0) → List ℕ → Type 0
-left_after Write at n is_done seen old c = (d : List ℕ) × old d × Torn at n d c
-left_after Shorten at n is_done seen old c = (d : List ℕ) × old d × Cut at d c
-left_after Sync at n is_done seen old c = left_by_sync is_done seen old c
-left_after Nothing at n is_done seen old c = old c
+abbrev pub left_after : Kind → ℕ → List ℕ → Bool → List ℕ → (List ℕ → Type 0) → List ℕ → Type 0
+left_after Write at bytes is_done seen old c = (d : List ℕ) × old d × Torn at bytes d c
+left_after Shorten at bytes is_done seen old c = (d : List ℕ) × old d × Cut at d c
+left_after Sync at bytes is_done seen old c = left_by_sync is_done seen old c
+left_after Nothing at bytes is_done seen old c = old c
 
 -- What a crash may leave at this moment. Of a file that was only opened nothing is known.
 abbrev pub may_leave : List ℕ → List NotedCall → List ℕ → Type 0
 may_leave first [] c = ⊤
 may_leave first (e ∷ es) c =
-    left_after e.kind e.at (length e.bytes) e.is_done (seen_after first es) (may_leave first es) c
+    left_after e.kind e.at e.bytes e.is_done (seen_after first es) (may_leave first es) c
 
 -- what a crash might have left since there were t calls
 abbrev pub left_since : List ℕ → List NotedCall → ℕ → List ℕ → Type 0

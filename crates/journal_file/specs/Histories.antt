@@ -1,4 +1,4 @@
-use Rattle.std.specs.Prelude.{◌≡◌, List, ◌∷◌}
+use Rattle.std.specs.Prelude.{◌≡◌, ◌∷◌}
 use Rattle.journal_file.specs.Files.{NotedCall}
 use Rattle.journal_file.specs.declared.history.History.{History}
 

@@ -4,8 +4,9 @@ use journal::{Fuse, Kept, Memory, Unrecovered, recover};
 use std::alloc::Global;
 use std::test::Fail;
 
-/// How much of the failing call's write stands: nothing, a part of a head, a part of an entry, all.
-static TORN: [usize; 5] = [0, 1, 20, 55, 1000];
+/// How much of the failing call's write stands: nothing, a gate, a part of a head, a part of an
+/// entry, all.
+static TORN: [usize; 5] = [0, 1, 20, 70, 1_000_000];
 
 /// A run over a device that fails once: how many batches are acknowledged, and what file is left.
 fn left(alloc: Global, device: Fuse<Memory>) -> Result<(usize, Vec<u8>), Fail> {
@@ -36,14 +37,14 @@ fn is_whole(alloc: Global, calls: usize, torn: usize) -> Result<usize, Fail> {
 
 #[test]
 fn batches_outlive_failures(rt: HostRuntime) -> Result<(), Fail> {
-    for calls in 0..20 {
+    for calls in 0..15 {
         for torn in &TORN {
             is_whole(rt.alloc(), calls, *torn)?;
         }
     }
-    holds(is_whole(rt.alloc(), 18, 0)? == 2, "the last call fails")?;
+    holds(is_whole(rt.alloc(), 13, 0)? == 2, "the last call fails")?;
     holds(
-        is_whole(rt.alloc(), 19, 0)? == BATCHES.len(),
+        is_whole(rt.alloc(), 14, 0)? == BATCHES.len(),
         "no call fails",
     )
 }

@@ -1,6 +1,8 @@
 // Files of the operating system: cut short at each length, with another byte at each place, in use,
 // and in a folder that takes none. Run as tests.
-use crate::parts::{BATCHES, ENTRIES, appended, are_first, block_at, holds, whole_file};
+use crate::parts::{
+    BATCHES, ENTRIES, appended, are_first, block_at, holds, looked_at, looks_torn, whole_file,
+};
 use journal::{Device, Journal, Kept, RecoverError, Unrecovered, recover};
 use journal_file::{FileDevice, OpenError};
 use std::alloc::Global;
@@ -84,42 +86,41 @@ fn is_cut(rt: &HostRuntime, path: &str, file: &[u8], len: usize) -> Result<(), F
 fn cut_files_take_more(rt: HostRuntime) -> Result<(), Fail> {
     let folder = new_folder(&rt, "cut")?;
     let path = folder.as_path().join(rt.alloc(), "log")?;
-    let file = whole_file(rt.alloc())?;
-    for len in 0..306 {
+    let file = looked_at(rt.alloc())?;
+    for len in (0..file.len()).step_by(7) {
         is_cut(&rt, path.as_str(), &file, len)?;
     }
     fs::remove_dir_all(&rt, folder)?;
     Ok(())
 }
 
-/// Another byte behind a gate is damage, whose place is told, and the file stays as it is.
+/// Another byte is damage, unless it looks as if a crash had left it. Its place is told, and the
+/// file stays as it is.
 fn is_damaged(rt: &HostRuntime, path: &str, file: &[u8], place: usize) -> Result<(), Fail> {
     let (blocks, gate) = block_at(place);
     let mut bytes = file.to_vec(rt.alloc())?;
     if let Some(byte) = bytes.get_mut(place) {
         *byte ^= 1;
     }
+    let is_end = looks_torn(&bytes, gate, place);
     fs::write(rt, path, bytes.as_slice())?;
     let mut kept = Kept::new(rt.alloc());
     let found = read_file(rt, path, &mut kept)?;
     holds(
-        place == gate || matches!(found, Found::Damaged(at) if at == gate),
+        is_end || matches!(found, Found::Damaged(at) if at == gate),
         "a damaged byte",
     )?;
     holds(are_first(kept.entries(), blocks), "entries before it")?;
     let left = fs::read(rt, path)?;
-    holds(
-        place == gate || left == bytes,
-        "the bytes of a damaged file",
-    )
+    holds(is_end || left == bytes, "the bytes of a damaged file")
 }
 
 #[test]
 fn damaged_files_stay(rt: HostRuntime) -> Result<(), Fail> {
     let folder = new_folder(&rt, "damaged")?;
     let path = folder.as_path().join(rt.alloc(), "log")?;
-    let file = whole_file(rt.alloc())?;
-    for place in 0..305 {
+    let file = looked_at(rt.alloc())?;
+    for place in 0..253 {
         is_damaged(&rt, path.as_str(), &file, place)?;
     }
     fs::remove_dir_all(&rt, folder)?;

@@ -12,14 +12,20 @@ pub static ENTRIES: [&str; 6] = ["a", "", "bcd", "e", "", "fghij"];
 pub static BATCHES: [[&str; 2]; 3] = [["a", ""], ["bcd", "e"], ["", "fghij"]];
 
 /// Where the gates of a run's file stand, the closed one last.
-static GATES: [usize; 7] = [0, 50, 99, 151, 201, 250, 304];
+static GATES: [usize; 4] = [0, 82, 167, 253];
 
-/// The blocks before this place, and the gate of the block in which it lies.
+/// How many bytes of a run's file are looked at: its blocks, and some zeros behind them.
+pub const LOOKED_AT: usize = 300;
+
+/// How many bytes a run's file has: a zero, and those for which it grows.
+pub const FILE_BYTES: usize = 1 + (1 << 16);
+
+/// The entries of the blocks before this place, and the gate of the block in which it lies.
 pub fn block_at(place: usize) -> (usize, usize) {
     let mut found = (0, 0);
     for (count, gate) in GATES.iter().enumerate() {
         if *gate <= place {
-            found = (count, *gate);
+            found = (2 * count, *gate);
         }
     }
     found
@@ -65,7 +71,7 @@ pub fn damage_of(alloc: Global, bytes: Vec<u8>, kept: &mut Kept) -> Result<Optio
     }
 }
 
-/// The file after all batches.
+/// The file after all batches, and the zeros behind them.
 pub fn whole_file(alloc: Global) -> Result<Vec<u8>, Fail> {
     let mut kept = Kept::new(alloc);
     match recover(alloc, Memory::new(alloc, Vec::new(alloc)), &mut kept) {
@@ -74,6 +80,27 @@ pub fn whole_file(alloc: Global) -> Result<Vec<u8>, Fail> {
             Ok(journal.into_device().bytes().to_vec(alloc)?)
         }
         Err(_) => Err(Fail::new(format_args!("an empty file"))),
+    }
+}
+
+/// The first bytes of that file: its blocks, and some of the zeros.
+pub fn looked_at(alloc: Global) -> Result<Vec<u8>, Fail> {
+    let file = whole_file(alloc)?;
+    holds(file.len() == FILE_BYTES, "the length of the file")?;
+    let (front, zeros) = file.as_slice().split_at(LOOKED_AT.min(file.len()));
+    holds(zeros.iter().all(|byte| *byte == 0), "zeros")?;
+    Ok(front.to_vec(alloc)?)
+}
+
+/// Whether a file with this byte changed looks as if a crash had left it so: the byte is a gate; or
+/// it is one of a count, and it or its partner is zero; or it is one behind them, and is zero.
+pub fn looks_torn(bytes: &[u8], gate: usize, place: usize) -> bool {
+    let at = |place: usize| bytes.get(place).copied() == Some(0);
+    match place - gate {
+        0 => true,
+        1..17 => at(place) || at(place + 16),
+        17..33 => at(place) || at(place - 16),
+        _ => at(place),
     }
 }
 

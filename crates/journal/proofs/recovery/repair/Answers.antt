@@ -1,12 +1,11 @@
 use Rattle.std.proofs.Common.{◌≡◌, ◌<◌, ◌^◌, List, ℕ, length, sym, ◌∙◌, ap, subst, arith}
-use Rattle.journal.specs.Form.{at_rest}
 use Rattle.journal.specs.Block.{StandsFor}
 use Rattle.journal.specs.Journal.{entries_read}
 use Rattle.journal.specs.Recovery.{TookFirst, EntriesEndAt}
 use Rattle.journal.proofs.Moments.{reads_none, reads_more, reads_on}
 use Rattle.journal.proofs.Recoveries.{as_before, as_repaired}
-use Rattle.journal.proofs.Replays.{took_none, stands_again, settled_again}
-use Rattle.journal.proofs.Repairs.{whole}
+use Rattle.journal.proofs.Replays.{took_none}
+use Rattle.journal.proofs.Repairs.{whole, closed_again, stands_again, rests, settled_again}
 use Rattle.journal.proofs.recovery.repair.Goals as goal
 
 is_small : (two one : List ℕ) (len : ℕ) → two ≡ one → len ≡ length one → len < 2 ^ 63 → length two < 2 ^ 63
@@ -98,21 +97,19 @@ returns-clause-whole g c =
 
 pub returns-clause-settled : goal.returns-clause-settled
 returns-clause-settled g c =
-    let d = g.D.Device in
-    let same2 : d.seen c.len.new.self ≡ d.seen c.args.device.now = c.len.ensures.seen ∙ c.sync.ensures.seen in
-    let small = is_small (d.seen c.len.new.self) (d.seen c.sync.new.self) c.in_ok-len.len c.len.ensures.seen c.in_ok-len.ensures.len c.in_ok-len.ensures.small in
-    settled_again d.seen d.may_leave c.close.new.device c.in_ok-end.end (d.seen c.len.new.self) c.in_ok-end.ensures.ends small (c.in_ok-close.ensures.closed ∙ ap (λ (f : List ℕ). at_rest (entries_read f)) c.replay.ensures.reads.same) c.in_ok-close.ensures.durable
-
-pub returns-clause-same : goal.returns-clause-same
-returns-clause-same g c =
-    let d = g.D.Device in
-    let same2 : d.seen c.len.new.self ≡ d.seen c.args.device.now = c.len.ensures.seen ∙ c.sync.ensures.seen in
-    let small = is_small (d.seen c.len.new.self) (d.seen c.sync.new.self) c.in_ok-len.len c.len.ensures.seen c.in_ok-len.ensures.len c.in_ok-len.ensures.small in
-    subst (λ f. StandsFor (d.seen c.close.new.device) (entries_read f)) same2 (stands_again (d.seen c.len.new.self) (d.seen c.close.new.device) c.in_ok-end.end c.in_ok-end.ensures.ends small (c.in_ok-close.ensures.closed ∙ ap (λ (f : List ℕ). at_rest (entries_read f)) c.replay.ensures.reads.same))
+    let small = is_small (g.D.Device.seen c.len.new.self) (g.D.Device.seen c.sync.new.self) c.in_ok-len.len c.len.ensures.seen c.in_ok-len.ensures.len c.in_ok-len.ensures.small in
+    let closed = closed_again (g.D.Device.seen c.len.new.self) c.in_ok-end.end c.in_ok-end.ensures.ends small _ _ c.replay.ensures.reads.same c.in_ok-close.ensures.closed in
+    settled_again (g.D.Device.seen c.len.new.self) c.in_ok-end.end c.in_ok-end.ensures.ends small g.D.Device.seen g.D.Device.may_leave c.close.new.device closed c.in_ok-close.ensures.durable
 
 pub returns-clause-at_rest : goal.returns-clause-at_rest
 returns-clause-at_rest g c =
-    let d = g.D.Device in
-    let same2 : d.seen c.len.new.self ≡ d.seen c.args.device.now = c.len.ensures.seen ∙ c.sync.ensures.seen in
-    let same3 : d.seen c.replay.new.device ≡ d.seen c.args.device.now = c.replay.ensures.reads.same ∙ same2 in
-    c.in_ok-close.ensures.closed ∙ ap (λ (f : List ℕ). at_rest (entries_read f)) same3
+    let small = is_small (g.D.Device.seen c.len.new.self) (g.D.Device.seen c.sync.new.self) c.in_ok-len.len c.len.ensures.seen c.in_ok-len.ensures.len c.in_ok-len.ensures.small in
+    let closed = closed_again (g.D.Device.seen c.len.new.self) c.in_ok-end.end c.in_ok-end.ensures.ends small _ _ c.replay.ensures.reads.same c.in_ok-close.ensures.closed in
+    rests (g.D.Device.seen c.len.new.self) c.in_ok-end.end c.in_ok-end.ensures.ends small (g.D.Device.seen c.close.new.device) closed
+
+pub returns-clause-same : goal.returns-clause-same
+returns-clause-same g c =
+    let small = is_small (g.D.Device.seen c.len.new.self) (g.D.Device.seen c.sync.new.self) c.in_ok-len.len c.len.ensures.seen c.in_ok-len.ensures.len c.in_ok-len.ensures.small in
+    let closed = closed_again (g.D.Device.seen c.len.new.self) c.in_ok-end.end c.in_ok-end.ensures.ends small _ _ c.replay.ensures.reads.same c.in_ok-close.ensures.closed in
+    let stands = stands_again (g.D.Device.seen c.len.new.self) c.in_ok-end.end c.in_ok-end.ensures.ends small (g.D.Device.seen c.close.new.device) closed in
+    subst (λ f. StandsFor (g.D.Device.seen c.close.new.device) (entries_read f)) (c.len.ensures.seen ∙ c.sync.ensures.seen) stands

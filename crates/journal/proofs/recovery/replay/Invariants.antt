@@ -3,8 +3,8 @@ use Rattle.journal.specs.Device.{Reads}
 use Rattle.journal.proofs.Replays.{SoFar}
 use Rattle.journal.proofs.recovery.replay.Given as goal
 
-abbrev pub invariant-loop-entry : goal.invariant-loop-entry
-invariant-loop-entry g l =
+abbrev pub invariant-loop-batch : goal.invariant-loop-batch
+invariant-loop-batch g l =
     let d = g.D.Device in
     record {
       so_far : SoFar (d.seen l.fn.device) l.at (g.S.Sink.took l.fn.sink) (g.S.Sink.took l.sink);
@@ -13,5 +13,5 @@ invariant-loop-entry g l =
       faults : d.faults l.fn.device ≤ d.faults l.device;
     }
 
-abbrev pub decreases-loop-entry : goal.decreases-loop-entry
-decreases-loop-entry g l = l.len - l.at
+abbrev pub decreases-loop-batch : goal.decreases-loop-batch
+decreases-loop-batch g l = l.len - l.at
