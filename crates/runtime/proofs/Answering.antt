@@ -1,15 +1,17 @@
 -- What a client answers to a commit, by what it is told at the commit lock.
-use Rattle.std.proofs.Common.{◌≡◌, ◌+◌, Option, Some, None, [], refl, ◌∙◌, subst}
-use Rattle.std.specs.Prelude.{IfSome}
+use Rattle.std.proofs.Common.{◌≡◌, ◌+◌, Bool, true, false, Option, Some, None, [], refl, ap, ◌∙◌, sym, subst, true≢false}
+use Rattle.std.specs.Bool.{OnTrue}
+use Rattle.std.specs.Prelude.{IfSome, IsErrOf}
 use mathlib.Core.List.{IsPrefix}
 use Rattle.kv_core.specs.declared.change.CommitRequest.{CommitRequest}
-use Rattle.runtime.specs.declared.trace.Trace.{Trace}
+use Rattle.runtime.specs.Traces.{Trace}
 use Rattle.runtime.specs.declared.outcome.Outcome.{Outcome}
 use Rattle.runtime.specs.declared.outcome.Outcome.TheVariants.{Committed, Conflict, TooOld, VersionsExhausted, Unknown, Memory}
+use Rattle.runtime.specs.declared.answers.CommitError.TheVariants.{Closed}
 use Rattle.runtime.specs.History.{Name, Prefix}
 use Rattle.runtime.specs.Outcomes.{Shows, entry, last_then}
 use Rattle.runtime.specs.Clients.{Knowledge}
-use Rattle.runtime.specs.Commits.{Answers, Learns, commit_answer}
+use Rattle.runtime.specs.Commits.{Answers, Learns, answer_unless, commit_answer}
 
 -- what the lock told: the log that shows the outcome is one of the client's database, which the client knows then
 abbrev pub IsTold : Knowledge → Knowledge → CommitRequest → Trace → Outcome → Option Prefix → Type 0
@@ -40,6 +42,32 @@ answers_by a b r t TooOld None told last = ([], stayed a b r t last)
 answers_by a b r t VersionsExhausted None told last = ([], stayed a b r t last)
 answers_by a b r t Unknown None told last = ([], silent a b r t last)
 answers_by a b r t Memory None told last = ([], stayed a b r t last)
+
+-- unless the database is closed
+pub answers_open : (a b : Knowledge) (r : CommitRequest) (t : Trace) (outcome : Outcome) (seen : Option Prefix) (is_closed : Bool) → IsTold a b r t outcome seen → b.last ≡ last_then a.last outcome → OnTrue is_closed (outcome ≡ Memory) →
+    Answers a b r t (answer_unless is_closed (commit_answer outcome seen))
+answers_open a b r t outcome seen true told last is = ([], stayed a b r t (last ∙ ap (last_then a.last) is))
+answers_open a b r t outcome seen false told last is = answers_by a b r t outcome seen told last
+
+-- it is told to be closed only where it is
+pub closed_only : (outcome : Outcome) (seen : Option Prefix) (is_closed : Bool) → IsErrOf (answer_unless is_closed (commit_answer outcome seen)) Closed → is_closed ≡ true
+closed_only outcome seen true is = refl
+closed_only (Committed version) (Some prefix) false is = absurd (cc (is))
+closed_only (Conflict version range) (Some prefix) false is = absurd (cc (is))
+closed_only TooOld (Some prefix) false is = absurd (cc (is))
+closed_only VersionsExhausted (Some prefix) false is = absurd (cc (is))
+closed_only Unknown (Some prefix) false is = absurd (cc (is))
+closed_only Memory (Some prefix) false is = absurd (cc (is))
+closed_only (Committed version) None false is = absurd (cc (is))
+closed_only (Conflict version range) None false is = absurd (cc (is))
+closed_only TooOld None false is = absurd (cc (is))
+closed_only VersionsExhausted None false is = absurd (cc (is))
+closed_only Unknown None false is = absurd (cc (is))
+closed_only Memory None false is = absurd (cc (is))
+
+pub kept_where : (outcome : Outcome) (seen : Option Prefix) (is_closed kept : Bool) → OnTrue is_closed (kept ≡ true) → IsErrOf (answer_unless is_closed (commit_answer outcome seen)) Closed → kept ≡ true
+kept_where outcome seen true kept known is = known
+kept_where outcome seen false kept known is = absurd (true≢false (sym (closed_only outcome seen false is)))
 
 -- the same by the clauses of the lock
 pub told_by : (a b : Knowledge) (name : Name) (r : CommitRequest) (t : Trace) (outcome : Outcome) (seen : Option Prefix) → name ≡ a.name → IfSome seen (λ f. (f.name ≡ name) × IsPrefix f.log b.log) →

@@ -1,10 +1,10 @@
 -- What a commit answers, and what the client knows then.
-use Rattle.std.specs.Prelude.{◌≡◌, ◌+◌, false, List, Option, Some, None, Result, Ok, Err, IfSome, if◌then◌else◌}
+use Rattle.std.specs.Prelude.{◌≡◌, ◌+◌, Bool, false, List, Option, Some, None, Result, Ok, Err, IfSome, if◌then◌else◌}
 use mathlib.Core.List.{IsPrefix}
 use Rattle.kv_core.specs.declared.change.CommitRequest.{CommitRequest}
 use Rattle.schedule.specs.Past.{is_changed}
 use Rattle.runtime.specs.declared.log_entry.Entry.{Entry}
-use Rattle.runtime.specs.declared.trace.Trace.{Trace}
+use Rattle.runtime.specs.Traces.{Trace}
 use Rattle.runtime.specs.declared.open_transaction.OpenTransaction.{OpenTransaction}
 use Rattle.runtime.specs.declared.outcome.Outcome.{Outcome}
 use Rattle.runtime.specs.declared.outcome.Outcome.TheVariants as outcomes
@@ -12,18 +12,21 @@ use Rattle.runtime.specs.declared.answers.Done.{Done}
 use Rattle.runtime.specs.declared.answers.Done.TheVariants.{Committed, ReadOnly}
 use Rattle.runtime.specs.declared.answers.CommitError.{CommitError}
 use Rattle.runtime.specs.declared.answers.CommitError.TheVariants.{Conflict, TooOld, VersionsExhausted, Unknown, Memory}
+use Rattle.runtime.specs.declared.answers.CommitError.TheVariants.{Closed}
 use Rattle.runtime.specs.History.{Name, Prefix}
 use Rattle.runtime.specs.Traces.{attempts_of}
 use Rattle.runtime.specs.Outcomes.{IsEndOf, Shows, entry, gives_number, last_then}
 use Rattle.runtime.specs.Clients.{Knowledge}
 
--- the outcome of which an error tells
+-- the outcome of which an error tells. A closed database isn't handed the request: as with `Memory` no number is given,
+-- and nothing is shown
 abbrev pub told_outcome : CommitError → Outcome
 told_outcome (Conflict seen range) = outcomes.Conflict seen range
 told_outcome TooOld = outcomes.TooOld
 told_outcome VersionsExhausted = outcomes.VersionsExhausted
 told_outcome Unknown = outcomes.Unknown
 told_outcome Memory = outcomes.Memory
+told_outcome Closed = outcomes.Memory
 
 -- the client's request came to this: the log shows it, the client knows the log, and it has one number more where one
 -- was given
@@ -66,3 +69,7 @@ commit_answer outcomes.VersionsExhausted (Some prefix) = Err VersionsExhausted
 commit_answer outcomes.Unknown (Some prefix) = Err Unknown
 commit_answer outcomes.Memory (Some prefix) = Err Memory
 commit_answer outcome None = unshown_answer outcome
+
+-- Private: this answer, unless the database is closed
+abbrev pub answer_unless : Bool → Result Done CommitError → Result Done CommitError
+answer_unless is_closed answer = if is_closed then Err Closed else answer

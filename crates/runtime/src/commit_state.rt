@@ -363,12 +363,19 @@ impl CommitState {
     }
 
     /// The state of a new database, without entries, for as many clients as the configuration has
-    /// places. It is refused as `Pipeline::new` refuses the configuration.
-    pub fn open<R: Wait>(rt: &R, alloc: Global, config: &Config) -> Result<CommitState, ConfigError>
+    /// places, in which what is committed is kept, or isn't. It is refused as `Pipeline::new` refuses
+    /// the configuration.
+    pub fn open<R: Wait>(
+        rt: &R,
+        alloc: Global,
+        config: &Config,
+        kept: bool,
+    ) -> Result<CommitState, ConfigError>
         ensures allowed { OnOk result (IsNone (config_refusal config.now)) }
         ensures refused { IfErr result (λ error.
             (error ≡ ConfigError.Memory) ⊎ (config_refusal config.now ≡ Some error)) }
         ensures config { IfOk result (λ state. state.name.config ≡ config.now) }
+        ensures kept { IfOk result (λ state. state.name.kept ≡ kept) }
         ensures empty { IfOk result (λ state.
             (state.published ≡ []) × (state.log ≡ []) × (state.due ≡ [])) }
         ensures clients { IfOk result (λ state. length state.last ≡ config.now.places) }
@@ -377,7 +384,7 @@ impl CommitState {
         let pipeline = Pipeline::new(alloc, config)?;
         let places = config.places as usize;
         let last = Vec::from_elem(alloc, 0u64, places)?;
-        let (publisher, head) = Publisher::open(rt, alloc, config, places)?;
+        let (publisher, head) = Publisher::open(rt, alloc, config, kept, places)?;
         let prefix = publisher.prefix();
         Ok(CommitState {
             alloc,

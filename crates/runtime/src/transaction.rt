@@ -1,6 +1,6 @@
 // Open transactions, with a call for each command. Used by `retrying`, and by `race`,
 // applications, tests and measures.
-ghost use Rattle.std.specs.Prelude.{◌≡◌, Some, None, false, Ok, IfErr, IfOk};
+ghost use Rattle.std.specs.Prelude.{◌≡◌, Some, None, true, false, Ok, IfErr, IfOk, IsErrOf};
 ghost use Rattle.std.specs.Borrow.{sem, RestsIfErr};
 ghost use mathlib.Core.List.{IsPrefix};
 ghost use Rattle.runtime.specs.contracts.client.Client.{the_row};
@@ -13,7 +13,7 @@ ghost use Rattle.runtime.specs.Traces.{attempts_of};
 
 use crate::answers::{CommandError, CommitError, Done};
 use crate::client::Client;
-use crate::critical_section::End;
+use crate::locked_state::End;
 use crate::published_reads::EnterError;
 use crate::replies::{accepted, found, planned, removed, rows, saved, total};
 use metadata::Cells;
@@ -171,6 +171,8 @@ impl<E: End> Txn<'_, E> {
         ensures read_only { (open_tx : _) → self.entry.client.now.begun ≡ Some open_tx →
             is_changed (attempts_of open_tx.trace.attempts.list) ≡ false →
             result ≡ Ok Done.ReadOnly }
+        ensures closed { IsErrOf result CommitError.Closed
+            → self.entry.client.now.name.kept ≡ true }
         ensures log { IsPrefix self.entry.client.now.log self.exit.0.now.log }
         ensures same { self.exit.0.now ≡ knows_that self.entry.client.now.name self.exit.0.now.log
             self.entry.client.now.number self.exit.0.now.last None }
