@@ -6,14 +6,14 @@ use Rattle.cluster_core.specs.Decision.{Cause}
 use Rattle.command_log.specs.declared.change.Change.{Change}
 use Rattle.command_log.specs.declared.entry.Entry.{Entry as KeptEntry}
 use Rattle.journal.specs.Device.{LeavesOnly}
-use Rattle.journal.proofs.Moments.{started, weaker}
+use Rattle.journal.proofs.Moments.{started}
 use Rattle.kv_core.specs.declared.change.CommitRequest.{CommitRequest}
 use Rattle.runtime.specs.declared.log_entry.Entry.{Entry}
 use Rattle.runtime.specs.declared.outcome.Outcome.{Outcome}
 use Rattle.runtime.specs.declared.outcome.Outcome.TheVariants.{Committed, Conflict, TooOld, VersionsExhausted, Unknown, Memory}
 use Rattle.runtime.specs.CommitStates.{CommitView, IsHandled}
 use mathlib.Core.List.{IsPrefix}
-use Rattle.runtime.specs.History.{Name}
+use Rattle.runtime.specs.History.{Name, Prefix}
 use Rattle.runtime.specs.Keeping.{IsBatchOrNone, IsKnown, IsOn, IsSafe, Keeps, Stands, is_kept, kept_after, kept_at, kept_by, kept_entry, kept_next, kept_of}
 use Rattle.runtime.specs.declared.keeping.Keeping.{Keeping}
 use Rattle.runtime.specs.declared.keeping.Keeping.TheVariants.{Off, On, Closed}
@@ -105,89 +105,106 @@ grown old new e Memory number store changes h idle numbered in_store are known =
 
 module _ {E : Type 0} (has : E → List KeptEntry → Type 0) where
   -- nothing was added yet
-  pub on_first : (state : CommitView) (end : E) → state.published ≡ [] → state.log ≡ [] → state.due ≡ [] → has end [] → IsOn has state end
-  on_first state end published log due file = record {
-    begins = subst (λ (l : List Entry). IsPrefix l state.log) (sym published) (state.log, refl);
+  pub on_first : (state : CommitView) (waiting : List KeptEntry) (end : E) → state.published ≡ [] → state.log ≡ [] → state.due ≡ [] → waiting ≡ [] → has end [] → IsOn has state waiting end
+  on_first state waiting end published log due none file = record {
+    stored = [];
+    rest = [];
+    begins = subst (λ (l : List Entry). IsPrefix l []) (sym published) ([], refl);
+    log = log;
+    kept = file;
+    waits = none;
     idle = due ∙ sym log;
-    kept = subst (λ (l : List Entry). has end (kept_of state.name.config l)) (sym log) file;
   }
 
-  -- all that is kept after a request
-  kept_all : (old new : CommitView) (end now : E) (batch : List KeptEntry) → IsOn has old end → IsGrown old new batch → ((before : List KeptEntry) → has end before → has now (before ++ batch)) → has now (kept_of old.name.config new.log)
-  kept_all old new end now batch on g keeps =
+  -- a request was handed in, and what is kept of it waits
+  pub adds_on : (old new : CommitView) (waiting after batch : List KeptEntry) (end : E) → IsOn has old waiting end → new.name ≡ old.name → new.published ≡ old.published → IsGrown old new batch → after ≡ waiting ++ batch → IsOn has new after end
+  adds_on old new waiting after batch end on name published g is =
       let config : Config = old.name.config in
-      let own : List KeptEntry = kept_of config old.log in
-      let all : own ++ batch ≡ kept_of config new.log = ap (λ l. own ++ l) (sym g.kept) ∙ sym (kept_longer config old.log g.more) ∙ ap (kept_of config) (sym g.log) in
+      let stored : List Entry = on.stored in
+      let whole : new.log ≡ stored ++ (on.rest ++ g.more) = g.log ∙ ap (λ l. l ++ g.more) on.log ∙ append_assoc stored on.rest g.more in
+      let more : batch ≡ kept_after config (stored ++ on.rest) g.more = sym g.kept ∙ ap (λ l. kept_after config l g.more) on.log in
+      let all : after ≡ kept_after config stored (on.rest ++ g.more) =
+      is ∙ (λ i. on.waits i ++ more i) ∙ sym (kept_append config stored on.rest g.more) in
+      record {
+        stored = stored;
+        rest = on.rest ++ g.more;
+        begins = subst (λ (l : List Entry). IsPrefix l stored) (sym published) on.begins;
+        log = whole;
+        kept = subst (λ (n : Name). has end (kept_of n.config stored)) (sym name) on.kept;
+        waits = subst (λ (n : Name). after ≡ kept_after n.config stored (on.rest ++ g.more)) (sym name) all;
+        idle = g.due;
+      }
+
+  -- all that is kept of the whole log, once what waits is kept
+  kept_all : (state : CommitView) (waiting : List KeptEntry) (end now : E) → IsOn has state waiting end → ((before : List KeptEntry) → has end before → has now (before ++ waiting)) → has now (kept_of state.name.config state.log)
+  kept_all state waiting end now on keeps =
+      let config : Config = state.name.config in
+      let own : List KeptEntry = kept_of config on.stored in
+      let all : own ++ waiting ≡ kept_of config state.log = ap (λ l. own ++ l) on.waits ∙ sym (kept_longer config on.stored on.rest) ∙ ap (kept_of config) (sym on.log) in
       subst (has now) all (keeps own on.kept)
 
-  -- what readers see is a beginning of the log then
-  grown_begins : (old new : CommitView) (end : E) (batch : List KeptEntry) → IsOn has old end → IsGrown old new batch → IsPrefix old.published new.log
-  grown_begins old new end batch on g =
-      (on.begins.0 ++ g.more, sym (append_assoc old.published on.begins.0 g.more) ∙ ap (λ l. l ++ g.more) on.begins.1 ∙ sym g.log)
-
-  -- it goes on, whether the entries are shown to readers or not
-  pub goes_on : (old new after : CommitView) (end now : E) (batch : List KeptEntry) → IsOn has old end → new.name ≡ old.name → new.published ≡ old.published → IsGrown old new batch → ((before : List KeptEntry) → has end before → has now (before ++ batch)) →
-      after.name ≡ new.name → after.log ≡ new.log → after.due ≡ new.due → (after.published ≡ new.published) ⊎ (after.published ≡ new.log) → IsOn has after now
-  goes_on old new after end now batch on name published g keeps named log due shown = record {
-    begins = subst (IsPrefix after.published) (sym log) (upto shown);
-    idle = due ∙ g.due ∙ sym log;
-    kept = subst₂ (λ (n : Name) (l : List Entry). has now (kept_of n.config l)) (sym (named ∙ name)) (sym log) (kept_all old new end now batch on g keeps);
+  -- so it goes on, whether all entries are shown to readers then or not
+  pub keeps_on : (old new : CommitView) (waiting : List KeptEntry) (after : List KeptEntry) (end now : E) → IsOn has old waiting end → ((before : List KeptEntry) → has end before → has now (before ++ waiting)) → after ≡ [] → new.name ≡ old.name → new.log ≡ old.log → new.due ≡ old.due →
+      (new.published ≡ old.published) ⊎ (new.published ≡ old.log) → IsOn has new after now
+  keeps_on old new waiting after end now on keeps none name log due shown = record {
+    stored = old.log;
+    rest = [];
+    begins = upto shown;
+    log = log ∙ sym (append-nil old.log);
+    kept = subst (λ (n : Name). has now (kept_of n.config old.log)) (sym name) (kept_all old waiting end now on keeps);
+    waits = none;
+    idle = due ∙ on.idle ∙ sym log;
   }
     where
-      upto : (after.published ≡ new.published) ⊎ (after.published ≡ new.log) → IsPrefix after.published new.log
-      upto (inl same) = subst (λ (l : List Entry). IsPrefix l new.log) (sym (same ∙ published)) (grown_begins old new end batch on g)
-      upto (inr seen) = subst (λ (l : List Entry). IsPrefix l new.log) (sym seen) ([], append-nil new.log)
+      upto : (new.published ≡ old.published) ⊎ (new.published ≡ old.log) → IsPrefix new.published old.log
+      upto (inl same) =
+          subst (λ (l : List Entry). IsPrefix l old.log) (sym same)
+          (on.begins.0 ++ on.rest, sym (append_assoc old.published on.begins.0 on.rest) ∙ ap (λ l. l ++ on.rest) on.begins.1 ∙ sym on.log)
+      upto (inr seen) = subst (λ (l : List Entry). IsPrefix l old.log) (sym seen) ([], append-nil old.log)
+
+  module _ (may_leave : E → List ℕ → Type 0) (is_log : List ℕ → List KeptEntry → Type 0) where
+    -- while entries are kept, what readers see is safe
+    pub safe_on : (state : CommitView) (waiting : List KeptEntry) (end : E) → ((end : E) (entries : List KeptEntry) (file : List ℕ) → has end entries → may_leave end file → is_log file entries) → IsOn has state waiting end → IsSafe may_leave is_log state.name.config state.published end
+    safe_on state waiting end law on file left =
+        let config : Config = state.name.config in
+        let tail : List KeptEntry = kept_after config state.published on.begins.0 in
+        let split : kept_of config on.stored ≡ kept_of config state.published ++ tail = ap (kept_of config) (sym on.begins.1) ∙ kept_longer config state.published on.begins.0 in
+        (tail, subst (is_log file) split (law end (kept_of config on.stored) file on.kept left))
+
+    -- so it may be closed before anything is written
+    pub closes_unwritten : (old new : CommitView) (waiting : List KeptEntry) (end : E) → ((end : E) (entries : List KeptEntry) (file : List ℕ) → has end entries → may_leave end file → is_log file entries) → IsOn has old waiting end → new.name ≡ old.name → new.published ≡ old.published →
+        IsSafe may_leave is_log new.name.config new.published end
+    closes_unwritten old new waiting end law on name published =
+        subst₂ (λ (n : Name) (l : List Entry). IsSafe may_leave is_log n.config l end) (sym name) (sym published) (safe_on old waiting end law on)
 
   module _ (may_leave : E → List ℕ → Type 0) (moment : E → ℕ) (left_since : E → ℕ → List ℕ → Type 0) (is_log : List ℕ → List KeptEntry → Type 0) where
-    -- it is closed, and what readers see is kept
-    pub closes : (old new : CommitView) (end now : E) (batch : List KeptEntry) → IsOn has old end → new.name ≡ old.name → new.published ≡ old.published → ((before : List KeptEntry) → has end before → LeavesOnly moment left_since end now (IsBatchOrNone is_log before batch)) →
-        ((t : ℕ) (file : List ℕ) → t ≤ moment now → may_leave now file → left_since now t file) → IsSafe may_leave is_log new.name.config new.published now
-    closes old new end now batch on name published run counts file left =
-        subst₂ (λ (n : Name) (l : List Entry). (more : List KeptEntry) × is_log file (kept_of n.config l ++ more)) (sym name) (sym published) (by_case (ran.each file (counts (moment end) file ran.later left)))
+    -- or after it isn't known what was written: what readers see is kept
+    pub closes : (state : CommitView) (waiting : List KeptEntry) (end now : E) → IsOn has state waiting end → ((before : List KeptEntry) → has end before → LeavesOnly moment left_since end now (IsBatchOrNone is_log before waiting)) →
+        ((t : ℕ) (file : List ℕ) → t ≤ moment now → may_leave now file → left_since now t file) → IsSafe may_leave is_log state.name.config state.published now
+    closes state waiting end now on run counts file left = by_case (ran.each file (counts (moment end) file ran.later left))
       where
         own : List KeptEntry
-        own = kept_of old.name.config old.published
+        own = kept_of state.name.config state.published
 
         tail : List KeptEntry
-        tail = kept_after old.name.config old.published on.begins.0
+        tail = kept_after state.name.config state.published on.begins.0
 
-        split : kept_of old.name.config old.log ≡ own ++ tail
-        split = ap (kept_of old.name.config) (sym on.begins.1) ∙ kept_longer old.name.config old.published on.begins.0
+        split : kept_of state.name.config on.stored ≡ own ++ tail
+        split = ap (kept_of state.name.config) (sym on.begins.1) ∙ kept_longer state.name.config state.published on.begins.0
 
-        ran : LeavesOnly moment left_since end now (IsBatchOrNone is_log (kept_of old.name.config old.log) batch)
-        ran = run (kept_of old.name.config old.log) on.kept
+        ran : LeavesOnly moment left_since end now (IsBatchOrNone is_log (kept_of state.name.config on.stored) waiting)
+        ran = run (kept_of state.name.config on.stored) on.kept
 
-        by_case : IsBatchOrNone is_log (kept_of old.name.config old.log) batch file → (more : List KeptEntry) × is_log file (own ++ more)
+        by_case : IsBatchOrNone is_log (kept_of state.name.config on.stored) waiting file → (more : List KeptEntry) × is_log file (own ++ more)
         by_case (inl without) = (tail, subst (is_log file) split without)
-        by_case (inr all) = (tail ++ batch, subst (is_log file) (ap (λ l. l ++ batch) split ∙ append_assoc own tail batch) all)
+        by_case (inr all) = (tail ++ waiting, subst (is_log file) (ap (λ l. l ++ waiting) split ∙ append_assoc own tail waiting) all)
 
     -- what a crash leaves where nothing is kept
     pub leaves_none : ((end : E) (file : List ℕ) → left_since end (moment end) file → may_leave end file) → ((end : E) (entries : List KeptEntry) (file : List ℕ) → has end entries → may_leave end file → is_log file entries) → (end : E) (before batch : List KeptEntry) → has end before →
         LeavesOnly moment left_since end end (IsBatchOrNone is_log before batch)
     leaves_none only_now leaves end before batch had = started moment left_since end (IsBatchOrNone is_log before batch) (λ file left. inl (leaves end before file had (only_now end file left)))
 
-    none_more : (before : List KeptEntry) (batch : List KeptEntry) (file : List ℕ) → IsBatchOrNone is_log before [] file → IsBatchOrNone is_log before batch file
-    none_more before batch file (inl without) = inl without
-    none_more before batch file (inr all) = inl (subst (is_log file) (append-nil before) all)
-
-    -- what a crash leaves has just what is kept of the entry, or doesn't
-    one_more : (old new : CommitView) (e : Entry) (outcome : Outcome) (number store : ℕ) (changes : List Change) → IsHandled old new e outcome → old.due ≡ old.log → number ≡ slice_index new.last e.client → store ≡ e.trace.store → changes ≡ changes_of e.trace.attempts.list →
-        (before : List KeptEntry) (file : List ℕ) → IsBatchOrNone is_log before (kept_by outcome e.client number store changes) file → IsBatchOrNone is_log before (kept_next old.name.config old.log e) file
-    one_more old new e (Committed version) number store changes h idle numbered in_store are before file left =
-        subst (λ batch. IsBatchOrNone is_log before batch file) (sym (kept_number old new e version number store changes h idle numbered in_store are)) left
-    one_more old new e (Conflict seen range) number store changes h idle numbered in_store are before file left = none_more before (kept_next old.name.config old.log e) file left
-    one_more old new e TooOld number store changes h idle numbered in_store are before file left = none_more before (kept_next old.name.config old.log e) file left
-    one_more old new e VersionsExhausted number store changes h idle numbered in_store are before file left = none_more before (kept_next old.name.config old.log e) file left
-    one_more old new e Unknown number store changes h idle numbered in_store are before file left = none_more before (kept_next old.name.config old.log e) file left
-    one_more old new e Memory number store changes h idle numbered in_store are before file left = none_more before (kept_next old.name.config old.log e) file left
-
-    pub leaves_one : (old new : CommitView) (e : Entry) (outcome : Outcome) (number store : ℕ) (changes : List Change) (end now : E) → IsHandled old new e outcome → old.due ≡ old.log → number ≡ slice_index new.last e.client → store ≡ e.trace.store → changes ≡ changes_of e.trace.attempts.list →
-        (before : List KeptEntry) → LeavesOnly moment left_since end now (IsBatchOrNone is_log before (kept_by outcome e.client number store changes)) → LeavesOnly moment left_since end now (IsBatchOrNone is_log before (kept_next old.name.config old.log e))
-    leaves_one old new e outcome number store changes end now h idle numbered in_store are before run =
-        weaker moment left_since end now (IsBatchOrNone is_log before (kept_by outcome e.client number store changes)) (IsBatchOrNone is_log before (kept_next old.name.config old.log e))
-        (one_more old new e outcome number store changes h idle numbered in_store are before) run
-
--- ---- what a look shows
+-- ---- what readers see
 
 module _ {E : Type 0} (may_leave : E → List ℕ → Type 0) (is_log : List ℕ → List KeptEntry → Type 0) where
   -- what is safe of a log is of each beginning of it
@@ -199,19 +216,20 @@ module _ {E : Type 0} (may_leave : E → List ℕ → Type 0) (is_log : List ℕ
       let all = safe file left in
       (tail ++ all.0, subst (is_log file) (ap (λ l. l ++ all.0) split ∙ append_assoc own tail all.0) all.1)
 
-  -- while entries are kept, all of them are safe
-  safe_on : (has : E → List KeptEntry → Type 0) (state : CommitView) (end : E) → ((end : E) (entries : List KeptEntry) (file : List ℕ) → has end entries → may_leave end file → is_log file entries) → IsOn has state end → IsSafe may_leave is_log state.name.config state.log end
-  safe_on has state end law on file left =
-      let own : List KeptEntry = kept_of state.name.config state.log in
-      ([], subst (is_log file) (sym (append-nil own)) (law end own file on.kept left))
-
-  stands_safe : (has : E → List KeptEntry → Type 0) (keeping : Keeping) (state : CommitView) (end : E) → ((end : E) (entries : List KeptEntry) (file : List ℕ) → has end entries → may_leave end file → is_log file entries) → Stands has may_leave is_log keeping state end → is_kept keeping ≡ true →
+  stands_safe : (has : E → List KeptEntry → Type 0) (keeping : Keeping) (state : CommitView) (waiting : List KeptEntry) (end : E) → ((end : E) (entries : List KeptEntry) (file : List ℕ) → has end entries → may_leave end file → is_log file entries) → Stands has may_leave is_log keeping state waiting end → is_kept keeping ≡ true →
       IsSafe may_leave is_log state.name.config state.published end
-  stands_safe has Off state end law stands is = absurd (true≢false (sym is))
-  stands_safe has On state end law stands is = safe_shorter state.name.config state.published state.log end stands.begins (safe_on has state end law stands)
-  stands_safe has Closed state end law stands is = stands
+  stands_safe has Off state waiting end law stands is = absurd (true≢false (sym is))
+  stands_safe has On state waiting end law stands is = safe_on has may_leave is_log state waiting end law stands
+  stands_safe has Closed state waiting end law stands is = stands
 
-  -- so what readers see is safe
-  pub safe_shown : (has : E → List KeptEntry → Type 0) (keeping : Keeping) (state : CommitView) (end : E) → ((end : E) (entries : List KeptEntry) (file : List ℕ) → has end entries → may_leave end file → is_log file entries) → Keeps has may_leave is_log keeping state end → is_kept keeping ≡ true →
+  -- where entries are kept, what readers see is safe
+  pub safe_shown : (has : E → List KeptEntry → Type 0) (keeping : Keeping) (state : CommitView) (waiting : List KeptEntry) (end : E) → ((end : E) (entries : List KeptEntry) (file : List ℕ) → has end entries → may_leave end file → is_log file entries) → Keeps has may_leave is_log keeping state waiting end → is_kept keeping ≡ true →
       IsSafe may_leave is_log state.name.config state.published end
-  safe_shown has keeping state end law keeps is = stands_safe has keeping state end law keeps.1 is
+  safe_shown has keeping state waiting end law keeps is = stands_safe has keeping state waiting end law keeps.1 is
+
+  -- and so is each log that they see
+  pub safe_seen : (has : E → List KeptEntry → Type 0) (keeping : Keeping) (state : CommitView) (waiting : List KeptEntry) (end : E) (prefix : Prefix) → ((end : E) (entries : List KeptEntry) (file : List ℕ) → has end entries → may_leave end file → is_log file entries) → Keeps has may_leave is_log keeping state waiting end →
+      prefix.name ≡ state.name → IsPrefix prefix.log state.published → state.name.kept ≡ true → IsSafe may_leave is_log prefix.name.config prefix.log end
+  safe_seen has keeping state waiting end prefix law keeps named upto kept =
+      subst (λ (n : Name). IsSafe may_leave is_log n.config prefix.log end) (sym named)
+      (safe_shorter state.name.config prefix.log state.published end upto (safe_shown has keeping state waiting end law keeps (keeps.0 ∙ kept)))

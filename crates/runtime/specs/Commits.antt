@@ -1,6 +1,7 @@
 -- What a commit answers, and what the client knows then.
-use Rattle.std.specs.Prelude.{◌≡◌, ◌+◌, Bool, false, List, Option, Some, None, Result, Ok, Err, IfSome, if◌then◌else◌}
+use Rattle.std.specs.Prelude.{◌≡◌, ◌+◌, Bool, false, List, ℕ, Option, Some, None, Result, Ok, Err, IfSome, if◌then◌else◌, ⊤}
 use mathlib.Core.List.{IsPrefix}
+use Rattle.command_log.specs.declared.entry.Entry.{Entry as KeptEntry}
 use Rattle.kv_core.specs.declared.change.CommitRequest.{CommitRequest}
 use Rattle.schedule.specs.Past.{is_changed}
 use Rattle.runtime.specs.declared.log_entry.Entry.{Entry}
@@ -17,6 +18,7 @@ use Rattle.runtime.specs.History.{Name, Prefix}
 use Rattle.runtime.specs.Traces.{attempts_of}
 use Rattle.runtime.specs.Outcomes.{IsEndOf, Shows, entry, gives_number, last_then}
 use Rattle.runtime.specs.Clients.{Knowledge}
+use Rattle.runtime.specs.Keeping.{IsStored}
 
 -- the outcome of which an error tells. A closed database isn't handed the request: as with `Memory` no number is given,
 -- and nothing is shown
@@ -44,6 +46,13 @@ Answers old new request trace (Ok (Committed version seen)) =
 Answers old new request trace (Ok ReadOnly) =
     (new.last ≡ old.last) × (is_changed (attempts_of trace.attempts.list) ≡ false)
 Answers old new request trace (Err error) = (log : List Entry) × Learns old new request trace (told_outcome error) log
+
+-- STORED: where the answer is `Committed`, the log of `seen` is stored, as far as it is kept
+abbrev pub IsStoredThen :
+    {E : Type 0} → (E → List ℕ → Type 0) → (List ℕ → List KeptEntry → Type 0) → Result Done CommitError → Type 0
+IsStoredThen may_leave is_log (Ok (Committed version seen)) = IsStored may_leave is_log seen.prefix
+IsStoredThen may_leave is_log (Ok ReadOnly) = ⊤
+IsStoredThen may_leave is_log (Err error) = ⊤
 
 -- Private: the log ends with the entry of the client's open transaction
 abbrev pub IsDue : Knowledge → Option Prefix → Type 0

@@ -10,6 +10,7 @@ use Rattle.runtime.specs.declared.log_entry.Entry.{Entry}
 use Rattle.runtime.specs.declared.outcome.Outcome.{Outcome}
 use Rattle.runtime.specs.declared.outcome.Outcome.TheVariants.{Committed, Unknown}
 use Rattle.runtime.specs.CommitStates.{CommitView}
+use Rattle.runtime.specs.History.{Prefix}
 use Rattle.runtime.specs.Logs.{cause_next, version_of}
 use Rattle.runtime.specs.Traces.{changes_of}
 
@@ -54,14 +55,15 @@ IsSafe may_leave is_log config log end =
 
 -- ---- the locked state
 
--- a state, what stands beside it, and whether what is committed is kept
+-- a state, what stands beside it, whether what is committed is kept, and what of it waits to be kept
 pub record LockedView (E : Type 0) : Type 0 where
   pub state : CommitView
   pub end : E
   pub keeping : Keeping
+  pub waiting : List KeptEntry
 
-abbrev pub locked_view : {E : Type 0} → CommitView → E → Keeping → LockedView E
-locked_view state end keeping = record { state = state; end = end; keeping = keeping }
+abbrev pub locked_view : {E : Type 0} → CommitView → E → Keeping → List KeptEntry → LockedView E
+locked_view state end keeping waiting = record { state = state; end = end; keeping = keeping; waiting = waiting }
 
 -- what is committed is kept, or was as long as anything was committed
 abbrev pub is_kept : Keeping → Bool
@@ -75,28 +77,40 @@ is_closed Off = false
 is_closed On = false
 is_closed Closed = true
 
--- entries are kept: the file has just what is kept of all entries, those that readers see and the others, and nothing
--- is in flight
-pub record IsOn {E : Type 0} (has : E → List KeptEntry → Type 0) (state : CommitView) (end : E) : Type 0 where
-  pub begins : IsPrefix state.published state.log
+-- entries are kept: the file has just what is kept of a beginning of the log, all that readers see among it; what is kept
+-- of the rest waits, in order; and nothing is in flight
+pub record IsOn {E : Type 0} (has : E → List KeptEntry → Type 0) (state : CommitView) (waiting : List KeptEntry)
+    (end : E) : Type 0 where
+  pub stored : List Entry
+  pub rest : List Entry
+  pub begins : IsPrefix state.published stored
+  pub log : state.log ≡ stored ++ rest
+  pub kept : has end (kept_of state.name.config stored)
+  pub waits : waiting ≡ kept_after state.name.config stored rest
   pub idle : state.due ≡ state.log
-  pub kept : has end (kept_of state.name.config state.log)
 
 -- what is on the disk beside a state. Once no more entries are kept, each crash leaves what is kept of those that
 -- readers see
 abbrev pub Stands :
     {E : Type 0} → (E → List KeptEntry → Type 0) → (E → List ℕ → Type 0) → (List ℕ → List KeptEntry → Type 0) →
-    Keeping → CommitView → E → Type 0
-Stands has may_leave is_log Off state end = ⊤
-Stands has may_leave is_log On state end = IsOn has state end
-Stands has may_leave is_log Closed state end = IsSafe may_leave is_log state.name.config state.published end
+    Keeping → CommitView → List KeptEntry → E → Type 0
+Stands has may_leave is_log Off state waiting end = ⊤
+Stands has may_leave is_log On state waiting end = IsOn has state waiting end
+Stands has may_leave is_log Closed state waiting end = IsSafe may_leave is_log state.name.config state.published end
 
 -- KEEPS: a database whose entries are kept stays one, and so much of them is on the disk
 abbrev pub Keeps :
     {E : Type 0} → (E → List KeptEntry → Type 0) → (E → List ℕ → Type 0) → (List ℕ → List KeptEntry → Type 0) →
-    Keeping → CommitView → E → Type 0
-Keeps has may_leave is_log keeping state end =
-    (is_kept keeping ≡ state.name.kept) × Stands has may_leave is_log keeping state end
+    Keeping → CommitView → List KeptEntry → E → Type 0
+Keeps has may_leave is_log keeping state waiting end =
+    (is_kept keeping ≡ state.name.kept) × Stands has may_leave is_log keeping state waiting end
+
+-- STORED: where what is committed is kept, there was a moment at which each crash left what is kept of all entries of this
+-- log, and maybe more after it
+abbrev pub IsStored :
+    {E : Type 0} → (E → List ℕ → Type 0) → (List ℕ → List KeptEntry → Type 0) → Prefix → Type 0
+IsStored {E} may_leave is_log prefix =
+    prefix.name.kept ≡ true → (end : E) × IsSafe may_leave is_log prefix.name.config prefix.log end
 
 -- ---- one request
 

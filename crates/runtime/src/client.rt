@@ -8,8 +8,8 @@ ghost use mathlib.Core.List.{IsPrefix};
 ghost use Rattle.schedule.specs.Past.{is_changed};
 ghost use Rattle.runtime.specs.Clients.{IsFresh, IsSameTransaction, knows_that};
 ghost use Rattle.runtime.specs.History.{log_prefix};
-ghost use Rattle.runtime.specs.Commits.{Answers, IsDue, IsLogOf, answer_unless, commit_answer};
-ghost use Rattle.runtime.specs.Commits.{unshown_answer};
+ghost use Rattle.runtime.specs.Commits.{Answers, IsDue, IsLogOf, IsStoredThen, answer_unless};
+ghost use Rattle.runtime.specs.Commits.{commit_answer, unshown_answer};
 ghost use Rattle.runtime.specs.Keeping.{IsSafe};
 ghost use Rattle.runtime.specs.Logs.{IsWellFormedLog};
 ghost use Rattle.runtime.specs.Serves.{IsAnswer, IsUnanswered};
@@ -19,7 +19,8 @@ ghost use Rattle.runtime.specs.Traces.{attempts_of, with_performed};
 
 use crate::answers::{CommitError, Done, Seen};
 use crate::commit_lock::{CommitLock, LockKey};
-use crate::critical_section::{Told, critical_section, look_there};
+use crate::critical_section::{critical_section, look_there};
+use crate::handing_in::Told;
 use crate::locked_state::{End, LockedState};
 use crate::log_prefix::LogPrefix;
 use crate::open_transaction::OpenTransaction;
@@ -278,6 +279,7 @@ impl<E: End> Client<E> {
             is_changed (attempts_of open_tx.trace.attempts.list) ≡ false → result.0 ≡ Ok Done.ReadOnly }
         ensures due { IsDue self.old result.1 }
         ensures closed { IsErrOf result.0 CommitError.Closed → self.old.name.kept ≡ true }
+        ensures stored { IsStoredThen E.may_leave E.is_log result.0 }
         ensures log { IsPrefix self.old.log self.new.log }
         ensures same { self.new
             ≡ knows_that self.old.name self.new.log self.old.number self.new.last None }

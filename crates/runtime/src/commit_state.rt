@@ -340,6 +340,13 @@ impl CommitState {
         self.publisher.prefix()
     }
 
+    /// The log of all entries that were added.
+    pub fn whole(&self) -> LogPrefix
+        ensures { result ≡ log_prefix self.now.name self.now.log }
+    {
+        self.prefix.again()
+    }
+
     /// A new reader, which knows of which database the state is, unless each place is in use.
     pub fn reader(&mut self) -> Result<StateReader, AllocError>
         ensures same { self.new ≡ self.old }

@@ -56,9 +56,9 @@ fn another<E: End, R: Wait>(
     ensures refused { IfErr result (λ error.
         (error ≡ OpenError.NoPlace) ⊎ (error ≡ OpenError.Memory)) }
 {
-    let (mut state, end, keeping) = lock.take(rt, key).into_parts();
+    let (mut state, end, keeping, waiting) = lock.take(rt, key).into_parts();
     let reader = place(&mut state);
-    lock.put(key, LockedState::of(state, end, keeping));
+    lock.put(key, LockedState::of(state, end, keeping, waiting));
     let Some(reader) = reader else {
         return Err(OpenError::NoPlace);
     };
@@ -120,7 +120,7 @@ pub fn open<E: End, R: Wait>(
         × (config_refusal config.now ≡ Some why))) }
 {
     let state = CommitState::open(rt, alloc, config, false)?;
-    let owned = LockedState::unkept(state, end);
+    let owned = LockedState::unkept(state, end, Vec::new(alloc));
     clients(rt, alloc, owned, config.places as usize)
 }
 
@@ -143,6 +143,6 @@ pub fn open_kept<E: End, R: Wait>(
         × (config_refusal config.now ≡ Some why))) }
 {
     let state = CommitState::open(rt, alloc, config, true)?;
-    let owned = LockedState::kept(state, end);
+    let owned = LockedState::kept(state, end, Vec::new(alloc));
     clients(rt, alloc, owned, config.places as usize)
 }

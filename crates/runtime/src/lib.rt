@@ -2,11 +2,14 @@
 #![tactic(auto)]
 
 mod answers;
+mod arrivals;
 mod client;
 mod commit_lock;
 mod commit_state;
 mod critical_section;
 mod db;
+mod group_commit;
+mod handing_in;
 mod in_flight;
 mod index_worker;
 mod keeping;

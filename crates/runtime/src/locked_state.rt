@@ -91,25 +91,28 @@ impl<R: Wait + Drop> End for Waits<R> {
     ghost only_now = { λ end file left. left };
 }
 
-/// The locked state, with what stands beside it.
+/// The locked state, with what stands beside it, and what of it is committed and not kept yet.
 pub struct LockedState<E: End> {
     state: CommitState,
     end: E,
     keeping: Keeping,
+    waiting: Vec<Entry>,
 }
 
 impl<E: End> Model for LockedState<E> {
     ghost use Rattle.std.specs.Coded.{codes};
+    ghost use Rattle.command_log.specs.contracts.entry.Entry as kept_entries;
     ghost use Rattle.runtime.specs.contracts.log_entry.Entry as entries;
     ghost use Rattle.runtime.specs.Keeping.{Keeps, LockedView, locked_view};
 
     ghost Value = { LockedView E };
 
-    ghost coded = { Prim.hlevel (codes, entries.the_row.coded) };
+    ghost coded = { Prim.hlevel (codes, entries.the_row.coded, kept_entries.the_row.coded) };
 
-    ghost view = { λ o. locked_view o.state o.end o.keeping };
+    ghost view = { λ o. locked_view o.state o.end o.keeping o.waiting.items };
 
-    ghost invariant = { λ o. Keeps E.has E.may_leave E.is_log o.keeping o.state o.end };
+    ghost invariant = { λ o.
+        Keeps E.has E.may_leave E.is_log o.keeping o.state o.waiting.items o.end };
 }
 
 impl<E: End> Lockable for LockedState<E> {
@@ -124,6 +127,7 @@ impl<E: End> Drop for LockedState<E> {
             state,
             end,
             keeping: _,
+            waiting: _,
         } = self;
         end.end(state);
     }
@@ -131,45 +135,56 @@ impl<E: End> Drop for LockedState<E> {
 
 impl<E: End> LockedState<E> {
     ghost use Rattle.std.specs.Prelude.{[], true, false, MatchOption};
+    ghost use Rattle.std.specs.Bool.{OnTrue};
+    ghost use mathlib.Core.List.{IsPrefix};
     ghost use Rattle.runtime.specs.History.{log_prefix};
     ghost use Rattle.runtime.specs.Keeping.{IsSafe, Keeps, locked_view};
 
     /// The locked state of these parts.
-    pub(crate) fn of(state: CommitState, end: E, keeping: Keeping) -> LockedState<E>
-        requires { Keeps E.has E.may_leave E.is_log keeping state end }
-        ensures { result ≡ locked_view state end keeping }
+    pub(crate) fn of(
+        state: CommitState,
+        end: E,
+        keeping: Keeping,
+        waiting: Vec<Entry>,
+    ) -> LockedState<E>
+        requires { Keeps E.has E.may_leave E.is_log keeping state waiting.items end }
+        ensures { result ≡ locked_view state end keeping waiting.items }
     {
         LockedState {
             state,
             end,
             keeping,
+            waiting,
         }
     }
 
     /// The locked state of a database of which nothing is kept.
-    pub(crate) fn unkept(state: CommitState, end: E) -> LockedState<E>
+    pub(crate) fn unkept(state: CommitState, end: E, waiting: Vec<Entry>) -> LockedState<E>
         requires { state.name.kept ≡ false }
-        ensures { result ≡ locked_view state end Keeping.Off }
+        ensures { result ≡ locked_view state end Keeping.Off waiting.items }
     {
         LockedState {
             state,
             end,
             keeping: Keeping::Off,
+            waiting,
         }
     }
 
     /// The locked state of a new database whose entries are kept.
     #[tactic(auto, using(crate::proofs::Kept::on_first))]
-    pub(crate) fn kept(state: CommitState, end: E) -> LockedState<E>
+    pub(crate) fn kept(state: CommitState, end: E, waiting: Vec<Entry>) -> LockedState<E>
         requires name { state.name.kept ≡ true }
-        requires new { (state.published ≡ []) × (state.log ≡ []) × (state.due ≡ []) }
+        requires new { (state.published ≡ []) × (state.log ≡ []) × (state.due ≡ [])
+            × (waiting.items ≡ []) }
         requires file { E.has end [] }
-        ensures { result ≡ locked_view state end Keeping.On }
+        ensures { result ≡ locked_view state end Keeping.On waiting.items }
     {
         LockedState {
             state,
             end,
             keeping: Keeping::On,
+            waiting,
         }
     }
 
@@ -178,6 +193,17 @@ impl<E: End> LockedState<E> {
         ensures { result ≡ log_prefix self.now.state.name self.now.state.published }
     {
         self.state.prefix()
+    }
+
+    /// Whether readers see this log. Where what is committed is kept, all that is kept of it is on
+    /// the disk then.
+    pub(crate) fn shows(&self, log: &LogPrefix) -> bool
+        requires { log.now.name ≡ self.now.state.name }
+        ensures shown { OnTrue result (IsPrefix log.now.log self.now.state.published) }
+        ensures safe { OnTrue result (self.now.state.name.kept ≡ true
+            → IsSafe E.may_leave E.is_log log.now.name.config log.now.log self.now.end) }
+    {
+        log.begins(&self.state.prefix())
     }
 
     /// What stands beside the state, as it is now, and the published log, where what is committed
@@ -196,16 +222,17 @@ impl<E: End> LockedState<E> {
     }
 
     /// The parts.
-    pub(crate) fn into_parts(self) -> (CommitState, E, Keeping)
+    pub(crate) fn into_parts(self) -> (CommitState, E, Keeping, Vec<Entry>)
         ensures parts { (result.0 ≡ self.state) × (result.1 ≡ self.end)
-            × (result.2 ≡ self.keeping) }
-        ensures keeps { Keeps E.has E.may_leave E.is_log result.2 result.0 result.1 }
+            × (result.2 ≡ self.keeping) × (result.3.items ≡ self.waiting) }
+        ensures keeps { Keeps E.has E.may_leave E.is_log result.2 result.0 result.3.items result.1 }
     {
         let Self {
             state,
             end,
             keeping,
+            waiting,
         } = self;
-        (state, end, keeping)
+        (state, end, keeping, waiting)
     }
 }

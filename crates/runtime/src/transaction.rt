@@ -8,7 +8,7 @@ ghost use Rattle.schedule.specs.Past.{is_changed};
 ghost use Rattle.runtime.specs.Calls.{HasCalled, HasPerformed};
 ghost use Rattle.runtime.specs.Calls.{found_reply, removed_reply, saved_reply};
 ghost use Rattle.runtime.specs.Clients.{IsFresh, knows_that};
-ghost use Rattle.runtime.specs.Commits.{Answers};
+ghost use Rattle.runtime.specs.Commits.{Answers, IsStoredThen};
 ghost use Rattle.runtime.specs.Traces.{attempts_of};
 
 use crate::answers::{CommandError, CommitError, Done};
@@ -163,7 +163,8 @@ impl<E: End> Txn<'_, E> {
     /// cause. `ReadOnly` submits nothing. After `TooOld` it has learnt a log that is more than the
     /// window above the transaction's, and after `VersionsExhausted` one after which no version is
     /// left, or no number for this client. Each of these logs has all earlier submissions of this
-    /// client, also those of which `Unknown` was told. A number is given to the submission with
+    /// client, also those of which `Unknown` was told. Where what is committed is kept, all that is
+    /// kept of it is on the disk before. A number is given to the submission with
     /// `Committed`, `Conflict` and `Unknown`, and in no other case.
     pub fn commit<R: Wait>(self, rt: &R) -> Result<Done, CommitError>
         ensures answer { (open_tx : _) → self.entry.client.now.begun ≡ Some open_tx →
@@ -173,6 +174,7 @@ impl<E: End> Txn<'_, E> {
             result ≡ Ok Done.ReadOnly }
         ensures closed { IsErrOf result CommitError.Closed
             → self.entry.client.now.name.kept ≡ true }
+        ensures stored { IsStoredThen E.may_leave E.is_log result }
         ensures log { IsPrefix self.entry.client.now.log self.exit.0.now.log }
         ensures same { self.exit.0.now ≡ knows_that self.entry.client.now.name self.exit.0.now.log
             self.entry.client.now.number self.exit.0.now.last None }

@@ -8,12 +8,12 @@ use Rattle.runtime.specs.History.{Name, Prefix}
 use Rattle.left_right.specs.Sides.{view as knowledge}
 use Rattle.runtime.specs.Clients.{HasReader, IsBegun, Knowledge, Remembers, knows_that}
 use Rattle.runtime.specs.declared.outcome.Outcome.{Outcome}
-use Rattle.runtime.specs.Commits.{Answers, answer_unless, commit_answer}
+use Rattle.runtime.specs.Commits.{Answers, IsStoredThen, answer_unless, commit_answer}
 use Rattle.runtime.specs.declared.answers.CommitError.TheVariants.{Closed}
 use Rattle.runtime.specs.Logs.{IsOpenOver}
 use Rattle.runtime.specs.Outcomes.{IsEndOf, Shows, entry, last_then}
 use Rattle.runtime.proofs.Serving.{nothing_written}
-use Rattle.runtime.proofs.Answering.{IsTold, answers_open, kept_where, told_by}
+use Rattle.runtime.proofs.Answering.{IsTold, answers_open, kept_where, stored_then, told_by}
 use Rattle.runtime.proofs.Known.{reader_later}
 use Rattle.runtime.proofs.client.Client.commit_here.Goals as goal
 
@@ -93,3 +93,10 @@ returns-clause-closed g c is =
     let own : OnTrue closed (c.self.inside.me.name.kept ≡ true) = subst (λ (n : Name). OnTrue closed (n.kept ≡ true)) over.0 known in
     let at : IsErrOf (answer_unless closed (commit_answer outcome seen)) Closed = subst (λ answer. IsErrOf answer Closed) c.answer_to.ensures is in
     subst (λ (k : Knowledge). k.name.kept ≡ true) c.self.view_is (kept_where outcome seen closed c.self.inside.me.name.kept own at)
+
+pub returns-clause-stored : goal.returns-clause-stored
+returns-clause-stored g c =
+    let e = g.E.End in
+    let told = c.critical_section-told.result in
+    subst (IsStoredThen e.may_leave e.is_log) (sym c.answer_to.ensures)
+    (stored_then e.may_leave e.is_log told.outcome told.prefix told.is_closed c.critical_section-told.ensures.stored)
