@@ -1,20 +1,36 @@
 // Clients on threads, whose commits are kept in a file. Called by `main`.
 use crate::commands::{create, save};
 use cluster_core::{Config, Splits};
-use commit_log::begin_log;
+use commit_log::{DeviceLog, begin_log};
 use journal_file::FileDevice;
 use runtime::{Client, Done, End, begin, open_kept};
 use std::alloc::Global;
 use std::fs::{File, Files};
 use std::io::ErrorKind;
 use std::rt::Clock;
-use std::sync::Wait;
+use std::sync::{Mutex, Wait};
 use std::thread::Threads;
 use std::time::Instant;
 use std::{io, thread};
 
-// How many clients there are.
-const CLIENTS: u64 = 8;
+/// How commits are made.
+#[derive(Clone, Copy, PartialEq, Eq)]
+pub enum Way {
+    /// Those that come together are kept together.
+    Together,
+    /// One at a time, so that each is kept by a call of its own.
+    Alone,
+    /// Together; the client and the number of each that was told to be committed are printed.
+    Told,
+}
+
+/// What is asked for: so many clients, so many commits by all of them, and how.
+#[derive(Clone, Copy)]
+pub struct Asked {
+    pub clients: u64,
+    pub commits: u32,
+    pub way: Way,
+}
 
 // What a thread does: so many commits.
 #[derive(Drop)]
@@ -30,25 +46,38 @@ fn commit_one<E: End, R: Wait>(
     alloc: Global,
     client: &mut Client<E>,
     key: i64,
+    turn: Option<&Mutex<()>>,
 ) -> Option<u64> {
     let mut tx = begin(client).ok()?;
     tx.call(&save(alloc, key, key).ok()?).ok()?;
-    match tx.commit(rt) {
+    let guard = turn.map(|turn| turn.lock(rt));
+    let done = tx.commit(rt);
+    drop(guard);
+    match done {
         Ok(Done::Committed { .. }) => Some(client.submissions()),
         _ => None,
     }
 }
 
 // Makes the commits of a job, and says how many were told to be committed.
-fn worked<E: End, R: Wait + Print>(rt: &R, alloc: Global, job: Job<E>) -> u64 {
+fn worked<E: End, R: Wait + Print>(
+    rt: &R,
+    alloc: Global,
+    job: Job<E>,
+    way: Way,
+    turn: &Mutex<()>,
+) -> u64 {
     let mut job = job;
     let mut made: u64 = 0;
-    for turn in 0..job.commits {
-        let key = i64::from(job.place.wrapping_mul(1_000_000).wrapping_add(turn));
-        if let Some(number) = commit_one(rt, alloc, &mut job.client, key) {
+    let turn = if way == Way::Alone { Some(turn) } else { None };
+    for one in 0..job.commits {
+        let key = i64::from(job.place.wrapping_mul(1_000_000).wrapping_add(one));
+        if let Some(number) = commit_one(rt, alloc, &mut job.client, key, turn) {
             made = made.wrapping_add(1);
             let place = job.place;
-            let _ = println!(rt; "{place} {number}");
+            if way == Way::Told {
+                let _ = println!(rt; "{place} {number}");
+            }
         }
     }
     made
@@ -80,13 +109,13 @@ fn made<E: End, R: Wait>(rt: &R, alloc: Global, client: &mut Client<E>) -> Optio
     }
 }
 
-// Has eight clients make so many commits over a file, and says how many were told to be committed.
-fn counted<R: Threads + Wait + Print + Files<File = File> + Sync>(
-    rt: &R,
+// The clients of a new database over a file, whose store is made.
+fn opened<'a, R: Wait + Files<File = File>>(
+    rt: &'a R,
     alloc: Global,
     path: &str,
-    commits: u32,
-) -> Option<u64> {
+    clients: u64,
+) -> Option<Vec<Client<DeviceLog<FileDevice, &'a R>>>> {
     let device = FileDevice::open(rt, alloc, path).ok()?;
     let log = begin_log(rt, alloc, device).ok()?;
     let config = Config {
@@ -95,14 +124,28 @@ fn counted<R: Threads + Wait + Print + Files<File = File> + Sync>(
         logs: 1,
         window: 1_000,
         start: 0,
-        places: CLIENTS,
+        places: clients,
     };
     let mut clients = open_kept(rt, alloc, log, &config).ok()?;
     let mut client = clients.pop()?;
     made(rt, alloc, &mut client)?;
     clients.push(client).ok()?;
-    let jobs = jobs(alloc, clients, commits / 8)?;
-    let counts = thread::map_vec(rt, jobs, &|job| worked(rt, alloc, job)).ok()?;
+    Some(clients)
+}
+
+// Has the clients make their commits, each on a thread of its own, and says how many were told to be
+// committed.
+fn counted<E: End + Send, R: Threads + Wait + Print + Sync>(
+    rt: &R,
+    alloc: Global,
+    clients: Vec<Client<E>>,
+    asked: Asked,
+) -> Option<u64> {
+    let each = asked.commits / (asked.clients as u32).max(1);
+    let jobs = jobs(alloc, clients, each)?;
+    let turn = Mutex::new(());
+    let way = asked.way;
+    let counts = thread::map_vec(rt, jobs, &|job| worked(rt, alloc, job, way, &turn)).ok()?;
     let mut all: u64 = 0;
     for count in &counts {
         all = all.wrapping_add(*count);
@@ -110,17 +153,20 @@ fn counted<R: Threads + Wait + Print + Files<File = File> + Sync>(
     Some(all)
 }
 
-/// Makes so many commits over a file, and prints how many, and in how many milliseconds.
+/// Makes so many commits over a new file, and prints how many, and in how many microseconds.
 pub fn run<R: Threads + Wait + Clock + Print + Files<File = File> + Sync>(
     rt: &R,
     alloc: Global,
     path: &str,
-    commits: u32,
+    asked: Asked,
 ) -> io::Result<()> {
-    let begun = Instant::now(rt)?;
-    let Some(made) = counted(rt, alloc, path, commits) else {
+    let Some(clients) = opened(rt, alloc, path, asked.clients) else {
         return Err(io::Error::from(ErrorKind::InvalidData));
     };
-    let time = begun.elapsed(rt)?.as_millis();
-    println!(rt; "{made} commits in {time} ms")
+    let begun = Instant::now(rt)?;
+    let Some(made) = counted(rt, alloc, clients, asked) else {
+        return Err(io::Error::from(ErrorKind::OutOfMemory));
+    };
+    let time = begun.elapsed(rt)?.as_micros();
+    println!(rt; "{made} commits in {time} us")
 }

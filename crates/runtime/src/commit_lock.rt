@@ -1,4 +1,5 @@
-// The lock, over a slot of `atomic_table`. Used by `db`, `client` and `critical_section`.
+// The lock, over a slot of `atomic_table`. Used by `db`, `client`, `group_commit` and
+// `critical_section`.
 ghost use Rattle.std.specs.Prelude.{◌≡◌, [], ◌∷◌, IfOk, None, MatchOption, ℕ, ◌+◌, slice_index};
 ghost use Rattle.runtime.specs.CommitLocks.{MayReturn, number_for, opener, returned_with, taken_by};
 ghost use Rattle.runtime.specs.CommitLocks.{with_client, with_one_more};

@@ -1,4 +1,5 @@
-// Whether what is committed is kept. Used by `locked_state`, `critical_section` and `db`.
+// Whether what is committed is kept. Used by `locked_state`, `handing_in` and
+// `group_commit`.
 ghost use Rattle.std.specs.Prelude.{◌≡◌};
 
 /// Entries weren't kept, or it isn't known whether they are.

@@ -1,5 +1,6 @@
 // What stands under the commit lock: the commit state, and beside it what keeps the log of what is
-// committed, and ends the state. Used by `critical_section`, `client` and `db`.
+// committed, and ends the state. Used by `handing_in`, `group_commit`,
+// `critical_section`, `client` and `db`.
 ghost use Rattle.std.specs.Prelude.{◌≡◌, ◌++◌, ◌≤◌, List, ℕ, OnOk};
 ghost use Rattle.command_log.specs.declared.entry.Entry.{Entry as KeptEntry};
 ghost use Rattle.journal.specs.Device.{LeavesOnly};

@@ -1,6 +1,6 @@
 // What a transaction does, for contracts: its store, and its commands; and what it changed, where a
 // log is to have that. Used by `open_transaction`, `published_reads`, `log_entry`, `commit_state`
-// and `critical_section`.
+// and `handing_in`.
 ghost use Rattle.std.specs.Prelude.{◌≡◌, ◌++◌, true, [], IfSome, Some};
 ghost use Rattle.record_store.specs.Layout.{is_store_number};
 ghost use Rattle.runtime.specs.Traces.{change_by, changes_of, with_performed};
