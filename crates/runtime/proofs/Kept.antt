@@ -1,6 +1,7 @@
 -- What is kept of a log, and what is on the disk after a request.
 use Rattle.std.proofs.Common.{◌≡◌, ◌⊎◌, ℕ, ◌+◌, ◌≤◌, Bool, true, false, List, [], ◌∷◌, ◌++◌, Option, Some, None, cond, inl, inr, refl, sym, ap, ◌∙◌, subst, subst₂, true≢false, append-nil, append_assoc, get_or-set_same}
-use Rattle.std.specs.Prelude.{is_none, slice_index}
+use Rattle.std.specs.Prelude.{is_none, slice_index, Result, Ok, Err, MatchResult, MatchBool, IfSome}
+use Rattle.std.specs.Bool.{OnTrue}
 use Rattle.cluster_core.specs.declared.answers.Config.{Config}
 use Rattle.cluster_core.specs.Decision.{Cause}
 use Rattle.command_log.specs.declared.change.Change.{Change}
@@ -11,10 +12,10 @@ use Rattle.kv_core.specs.declared.change.CommitRequest.{CommitRequest}
 use Rattle.runtime.specs.declared.log_entry.Entry.{Entry}
 use Rattle.runtime.specs.declared.outcome.Outcome.{Outcome}
 use Rattle.runtime.specs.declared.outcome.Outcome.TheVariants.{Committed, Conflict, TooOld, VersionsExhausted, Unknown, Memory}
-use Rattle.runtime.specs.CommitStates.{CommitView, IsHandled}
+use Rattle.runtime.specs.CommitStates.{CommitView, IsHandled, commit_view}
 use mathlib.Core.List.{IsPrefix}
 use Rattle.runtime.specs.History.{Name, Prefix}
-use Rattle.runtime.specs.Keeping.{IsBatchOrNone, IsKnown, IsOn, IsSafe, Keeps, Stands, is_kept, kept_after, kept_at, kept_by, kept_entry, kept_next, kept_of}
+use Rattle.runtime.specs.Keeping.{IsBatchOrNone, IsKnown, IsOn, IsSafe, IsStored, Keeps, Stands, is_kept, kept_after, kept_at, kept_by, kept_entry, kept_next, kept_of}
 use Rattle.runtime.specs.declared.keeping.Keeping.{Keeping}
 use Rattle.runtime.specs.declared.keeping.Keeping.TheVariants.{Off, On, Closed}
 use Rattle.runtime.specs.Logs.{cause_next, version_of}
@@ -101,6 +102,21 @@ grown old new e Memory number store changes h idle numbered in_store are known =
   | inr stays ↦ grown_stays old new idle stays.0 stays.1
 ]
 
+-- ---- what is shown
+
+-- all entries are shown to readers
+abbrev pub all_shown : CommitView → CommitView
+all_shown s = commit_view s.name s.log s.log s.due s.last
+
+-- a publish shows all entries, or what was shown
+pub shown_or_not : {A B : Type 0} (old new : CommitView) (r : Result A B) → MatchResult r (λ _. new ≡ all_shown old) (λ _. new ≡ old) → (new ≡ all_shown old) ⊎ (new ≡ old)
+shown_or_not old new (Ok one) is = inl is
+shown_or_not old new (Err error) is = inr is
+
+pub shown_name : (old new : CommitView) → (new ≡ all_shown old) ⊎ (new ≡ old) → new.name ≡ old.name
+shown_name old new (inl is) = ap (λ (s : CommitView). s.name) is
+shown_name old new (inr is) = ap (λ (s : CommitView). s.name) is
+
 -- ---- what is on the disk then
 
 module _ {E : Type 0} (has : E → List KeptEntry → Type 0) where
@@ -144,23 +160,16 @@ module _ {E : Type 0} (has : E → List KeptEntry → Type 0) where
       subst (has now) all (keeps own on.kept)
 
   -- so it goes on, whether all entries are shown to readers then or not
-  pub keeps_on : (old new : CommitView) (waiting : List KeptEntry) (after : List KeptEntry) (end now : E) → IsOn has old waiting end → ((before : List KeptEntry) → has end before → has now (before ++ waiting)) → after ≡ [] → new.name ≡ old.name → new.log ≡ old.log → new.due ≡ old.due →
-      (new.published ≡ old.published) ⊎ (new.published ≡ old.log) → IsOn has new after now
-  keeps_on old new waiting after end now on keeps none name log due shown = record {
-    stored = old.log;
-    rest = [];
-    begins = upto shown;
-    log = log ∙ sym (append-nil old.log);
-    kept = subst (λ (n : Name). has now (kept_of n.config old.log)) (sym name) (kept_all old waiting end now on keeps);
-    waits = none;
-    idle = due ∙ on.idle ∙ sym log;
-  }
+  pub keeps_on : (old new : CommitView) (waiting : List KeptEntry) (after : List KeptEntry) (end now : E) → IsOn has old waiting end → ((before : List KeptEntry) → has end before → has now (before ++ waiting)) → after ≡ [] → (new ≡ all_shown old) ⊎ (new ≡ old) → IsOn has new after now
+  keeps_on old new waiting after end now on keeps none (inl is) =
+      subst (λ (s : CommitView). IsOn has s after now) (sym is)
+      (record { stored = old.log; rest = []; begins = ([], append-nil old.log); log = sym (append-nil old.log); kept = kept_all old waiting end now on keeps; waits = none; idle = on.idle })
+  keeps_on old new waiting after end now on keeps none (inr is) =
+      subst (λ (s : CommitView). IsOn has s after now) (sym is)
+      (record { stored = old.log; rest = []; begins = upto; log = sym (append-nil old.log); kept = kept_all old waiting end now on keeps; waits = none; idle = on.idle })
     where
-      upto : (new.published ≡ old.published) ⊎ (new.published ≡ old.log) → IsPrefix new.published old.log
-      upto (inl same) =
-          subst (λ (l : List Entry). IsPrefix l old.log) (sym same)
-          (on.begins.0 ++ on.rest, sym (append_assoc old.published on.begins.0 on.rest) ∙ ap (λ l. l ++ on.rest) on.begins.1 ∙ sym on.log)
-      upto (inr seen) = subst (λ (l : List Entry). IsPrefix l old.log) (sym seen) ([], append-nil old.log)
+      upto : IsPrefix old.published old.log
+      upto = (on.begins.0 ++ on.rest, sym (append_assoc old.published on.begins.0 on.rest) ∙ ap (λ l. l ++ on.rest) on.begins.1 ∙ sym on.log)
 
   module _ (may_leave : E → List ℕ → Type 0) (is_log : List ℕ → List KeptEntry → Type 0) where
     -- while entries are kept, what readers see is safe
@@ -233,3 +242,14 @@ module _ {E : Type 0} (may_leave : E → List ℕ → Type 0) (is_log : List ℕ
   safe_seen has keeping state waiting end prefix law keeps named upto kept =
       subst (λ (n : Name). IsSafe may_leave is_log n.config prefix.log end) (sym named)
       (safe_shorter state.name.config prefix.log state.published end upto (safe_shown has keeping state waiting end law keeps (keeps.0 ∙ kept)))
+
+  -- so it is where a test says that they do
+  pub safe_if : (seen : Bool) (shorter longer : Type 0) (safe : Type 0) → MatchBool seen shorter longer → (shorter → safe) → OnTrue seen safe
+  safe_if true shorter longer safe is by = by is
+  safe_if false shorter longer safe is by = tt
+
+  -- what is safe now is stored
+  pub stored_if : (seen : Bool) (log : Option Prefix) (end : E) → OnTrue seen (IfSome log (λ l. l.name.kept ≡ true → IsSafe may_leave is_log l.name.config l.log end)) → OnTrue seen (IfSome log (IsStored may_leave is_log))
+  stored_if false log end safe = tt
+  stored_if true None end safe = tt
+  stored_if true (Some l) end safe = λ kept. (end, safe kept)
