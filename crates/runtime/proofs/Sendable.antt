@@ -18,6 +18,7 @@ use Rattle.cluster_core.specs.contracts.segments.Segments as Segments
 use Rattle.cluster_core.specs.contracts.kept.Writers as Writers
 use Rattle.cluster_core.specs.contracts.resolver.Resolver as Resolver
 use Rattle.cluster_core.specs.contracts.pipeline.Pipeline as Pipeline
+use Rattle.command_log.proofs.entry.Entry.TheSendSync as kept_entry
 use Rattle.schedule.proofs.known.Known.TheSendSync as known
 use Rattle.runtime.proofs.publisher.Publisher.TheSendSync as publisher
 use Rattle.runtime.proofs.log_prefix.LogHead.TheSendSync as head
@@ -88,7 +89,7 @@ owned_send : (E : RattleType) (g : Ghosts E.Denot) → IsSend E → IsSend (Lock
 owned_send E g s =
     view_send (of_locked.the_row E g) _ _ _ _
     (recorded_send (of_locked.the_field E g).row _ _ (of_locked.the_type E g).to_one
-    (struct_send (shape (of_locked.the_type E g)) (hold_send, (s, (keeping.the_field_send, tt)))))
+    (struct_send (shape (of_locked.the_type E g)) (hold_send, (s, (keeping.the_field_send, (search (kept_entry.the_send, sendable, crosses) depth 20, tt))))))
 
 reader_send :
     IsSend (Reader.the_row Published.the_row View.the_row PublishedRule.the_row Heap.the_row well_formed.ghosts allocator.ghosts)
