@@ -140,9 +140,9 @@ fn look_in<E: End, R: Wait>(
     seen
 }
 
-/// Waits until readers see this log, and says whether they do: not where it couldn't be kept, or
-/// memory ran out in showing it. Whoever comes last keeps what waits, of all that came.
-pub fn settle<E: End, R: Wait>(
+/// Sleeps until readers see this log, and says whether they do: not where it couldn't be kept, or
+/// memory ran out in showing it.
+fn sleep_until_seen<E: End, R: Wait>(
     rt: &R,
     alloc: Global,
     lock: &CommitLock<LockedState<E>>,
@@ -159,15 +159,41 @@ pub fn settle<E: End, R: Wait>(
 {
     let mut guard = guard;
     for _ in rt.forever() {
+        guard = lock.arrivals().sleep(rt, guard);
         let is_last = lock.arrivals().are_over();
         let seen = look_in(rt, alloc, lock, key, log, is_last);
-        if is_last {
-            lock.arrivals().wake();
-        }
-        if seen || is_last || log.is_none() {
+        if seen || is_last {
             return seen;
         }
-        guard = lock.arrivals().sleep(rt, guard);
     }
     unreachable!()
+}
+
+/// Has what waits kept and shown, with that of others that come, and says whether readers see this
+/// log then. Whoever comes last keeps what waits, and wakes the others.
+pub fn settle<E: End, R: Wait>(
+    rt: &R,
+    alloc: Global,
+    lock: &CommitLock<LockedState<E>>,
+    key: &mut LockKey<LockedState<E>>,
+    guard: MutexGuard<'_, ()>,
+    log: &Option<LogPrefix>,
+) -> bool
+    requires table { key.old.table_id ≡ lock.now.table.shared.table_id }
+    requires key { key.old.me ≡ (with_last key.old.me.0.last key.old.me.0, []) }
+    requires name { IsLogOf key.old.me.0.about.value.state.name log.now }
+    ensures table { key.new.table_id ≡ key.old.table_id }
+    ensures key { key.new.me ≡ key.old.me }
+    ensures stored { OnTrue result (IfSome log.now (IsStored E.may_leave E.is_log)) }
+{
+    let is_last = lock.arrivals().are_gathered();
+    let seen = look_in(rt, alloc, lock, key, log, is_last);
+    if is_last {
+        lock.arrivals().wake();
+        return seen;
+    }
+    if seen || log.is_none() {
+        return seen;
+    }
+    sleep_until_seen(rt, alloc, lock, key, guard, log)
 }

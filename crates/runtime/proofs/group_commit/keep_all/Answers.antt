@@ -20,8 +20,7 @@ of-requires-2 g c =
     let all : (before : List KeptEntry) → e.has c.args.end before → e.has c.keep_batch-kept.new.end (before ++ c.as_slice.result.now) = search rules in
     let keeps : (before : List KeptEntry) → e.has c.args.end before → e.has c.keep_batch-kept.new.end (before ++ c.args.waiting.items) =
     λ before had. subst (λ (batch : List KeptEntry). e.has c.keep_batch-kept.new.end (before ++ batch)) c.as_slice.ensures.value (all before had) in
-    let shown : (c.publish-state.result.0 ≡ all_shown c.args.state) ⊎ (c.publish-state.result.0 ≡ c.args.state) = shown_or_not c.args.state c.publish-state.result.0 c.publish-state.result.1 c.publish-state.ensures.shown in
-    (
+    let shown : (c.publish-state.result.0 ≡ all_shown c.args.state) ⊎ (c.publish-state.result.0 ≡ c.args.state) = shown_or_not c.args.state c.publish-state.result.0 c.publish-state.result.1 c.publish-state.ensures.shown in (
       sym (ap (λ (n : Name). n.kept) (shown_name c.args.state c.publish-state.result.0 shown) ∙ c.requires.on.0),
       keeps_on e.has c.args.state c.publish-state.result.0 c.args.waiting.items c.new-2.result.items c.args.end c.keep_batch-kept.new.end c.requires.on.1 keeps c.new-2.ensures.items shown,
     )

@@ -1,5 +1,5 @@
 use Rattle.std.proofs.Common.{◌≡◌}
-use Rattle.runtime.proofs.group_commit.settle.Given as goal
+use Rattle.runtime.proofs.group_commit.sleep_until_seen.Given as goal
 
 abbrev pub invariant-loop : goal.invariant-loop
 invariant-loop g l =
