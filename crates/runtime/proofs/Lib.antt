@@ -8,6 +8,7 @@ pub mod Entries
 pub mod Handled
 pub mod Kept
 pub mod Known
+pub mod Returning
 pub mod KnownStores
 pub mod WellFormed
 pub mod Moves

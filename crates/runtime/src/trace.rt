@@ -65,6 +65,20 @@ fn with_change(before: Option<Changes>, command: &Command, reply: &Reply) -> Opt
 }
 
 impl Trace {
+    /// No command, in a store. What the transaction changes isn't recorded.
+    pub fn new(store: StoreNumber) -> Trace
+        ensures store { result.store ≡ store }
+        ensures lawful { is_store_number result.store ≡ true }
+        ensures attempts { result.attempts.list ≡ [] }
+    {
+        prove!(store.get() <= u64::MAX);
+        Trace {
+            store,
+            attempts: Attempts::new(),
+            changes: None,
+        }
+    }
+
     /// No command, in a store, and whether what the transaction changes is recorded, for a log.
     pub fn begin(alloc: Global, store: StoreNumber, records: bool) -> Trace
         ensures store { result.store ≡ store }

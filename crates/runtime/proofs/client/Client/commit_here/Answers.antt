@@ -1,4 +1,4 @@
-use Rattle.std.proofs.Common.{rules, Bool, ℕ, ◌+◌, ◌<◌, ◌≡◌, ◌∙◌, refl, sym, ap, append-nil, subst, Option, Some, [], true≢false}
+use Rattle.std.proofs.Common.{rules, Bool, true, ℕ, ◌+◌, ◌<◌, ◌≡◌, ◌∙◌, refl, sym, ap, append-nil, subst, Option, Some, [], true≢false}
 use Rattle.std.specs.Prelude.{IfSome, IsErrOf}
 use Rattle.std.specs.Bool.{OnTrue}
 use mathlib.Core.List.{IsPrefix}
