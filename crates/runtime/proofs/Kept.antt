@@ -8,7 +8,6 @@ use Rattle.command_log.specs.declared.change.Change.{Change}
 use Rattle.command_log.specs.declared.entry.Entry.{Entry as KeptEntry}
 use Rattle.journal.specs.Device.{LeavesOnly}
 use Rattle.journal.proofs.Moments.{started}
-use Rattle.kv_core.specs.declared.change.CommitRequest.{CommitRequest}
 use Rattle.runtime.specs.declared.log_entry.Entry.{Entry}
 use Rattle.runtime.specs.declared.outcome.Outcome.{Outcome}
 use Rattle.runtime.specs.declared.outcome.Outcome.TheVariants.{Committed, Conflict, TooOld, VersionsExhausted, Unknown, Memory}

@@ -1,7 +1,6 @@
-use Rattle.std.proofs.Common.{rules, ◌≡◌, ◌⊎◌, ◌++◌, List, true, sym, ap, ◌∙◌, subst}
+use Rattle.std.proofs.Common.{rules, ◌≡◌, ◌⊎◌, ◌++◌, List, sym, ap, ◌∙◌, subst}
 use Rattle.command_log.specs.declared.entry.Entry.{Entry as KeptEntry}
 use Rattle.journal.specs.Device.{LeavesOnly}
-use Rattle.runtime.specs.CommitStates.{CommitView}
 use Rattle.runtime.specs.History.{Name}
 use Rattle.runtime.specs.Keeping.{IsBatchOrNone}
 use Rattle.runtime.proofs.Kept.{all_shown, closes, keeps_on, shown_name, shown_or_not}
