@@ -1,5 +1,5 @@
 -- What a crash leaves of a log that is on the disk.
-use Rattle.std.specs.Prelude.{◌≡◌, ℕ, List}
+use Rattle.std.specs.Prelude.{ℕ, List}
 use Rattle.std.proofs.Common.{subst, sym}
 use Rattle.command_log.specs.declared.entry.Entry.{Entry}
 use Rattle.durable.specs.Keeping.{HasLogOf, HasOnDisk, no_base}

@@ -1,5 +1,4 @@
-use Rattle.std.proofs.Common.{ℕ, ◌+◌, List, take, arith, subst, sym}
-use Rattle.command_log.specs.declared.entry.Entry.{Entry}
+use Rattle.std.proofs.Common.{◌+◌, take, arith, subst, sym}
 use Rattle.journal.specs.Words.{bytes_of_each}
 use Rattle.replay.specs.Replaying.{AreWrittenAs}
 use Rattle.commit_log.proofs.Batches.{written_turn}
