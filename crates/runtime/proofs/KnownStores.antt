@@ -15,10 +15,9 @@ use Rattle.schedule.proofs.OwnStore.{holds_nothing}
 use Rattle.schedule.proofs.Composed.{open_sees}
 use Rattle.schedule.proofs.KnownStores.{known_elsewhere}
 use Rattle.runtime.specs.declared.log_entry.Entry.{Entry}
-use Rattle.runtime.specs.declared.trace.Trace.{Trace}
+use Rattle.runtime.specs.Traces.{Trace, opened}
 use Rattle.runtime.specs.History.{Name, Prefix}
 use Rattle.runtime.specs.Logs.{IsOpenOver, IsWellFormedLog, commits_in, log_map, log_tier, pipeline_of, submissions_of, version_of}
-use Rattle.runtime.specs.Traces.{opened}
 use Rattle.runtime.proofs.Serving.{legal_of, same_map}
 
 -- what a transaction over a log sees is a store, or none

@@ -37,7 +37,7 @@ use Rattle.schedule.proofs.Submitting.{numbered_length}
 use Rattle.schedule.proofs.Turning.{done_append, open_changed, open_grown}
 use Rattle.runtime.specs.declared.log_entry.Entry.{Entry}
 use Rattle.runtime.specs.declared.performed.Performed.{Performed}
-use Rattle.runtime.specs.declared.trace.Trace.{Trace}
+use Rattle.runtime.specs.Traces.{Trace}
 use Rattle.runtime.specs.Logs.{requests_of, version_of, numbered_of, history_of, log_map, pipeline_of}
 use Rattle.runtime.specs.Logs.{logged_mutations, log_tier, submissions_of, committed_at}
 use Rattle.runtime.specs.Logs.{HoldsEach, IsHeadlineOf, IsSerialLog, IsWellFormedLog, IsOpenOver, IsServedLog}

@@ -21,7 +21,7 @@ use Rattle.schedule.proofs.Turning.{open_elsewhere, open_fresh, open_later}
 use Rattle.schedule.proofs.Submitting.{submitted_more, submitted_later}
 use Rattle.runtime.specs.declared.log_entry.Entry.{Entry}
 use Rattle.runtime.specs.declared.performed.Performed.{Performed}
-use Rattle.runtime.specs.declared.trace.Trace.{Trace}
+use Rattle.runtime.specs.Traces.{Trace}
 use Rattle.runtime.specs.Logs.{requests_of, version_of, log_map, pipeline_of, submissions_from}
 use Rattle.runtime.specs.Logs.{submissions_of, IsOpenOver, is_same_submission, is_once, IsWellFormedLog, count_of, is_numbered}
 use Rattle.runtime.specs.Traces.{attempts_of, opened}
