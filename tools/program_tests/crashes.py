@@ -1,8 +1,8 @@
 """Databases in folders whose program is killed, or whose file is cut short, damaged, in use, or can't grow.
 
 What was told to be committed is there after each kill, and of the transaction at which the program was all or nothing.
-A file that ends in the midst of an entry has those before it. Where an entry before others has another byte the file is
-refused, at the place that the file was long before that entry, and keeps each byte. What is there is what a plain shell
+A file that ends in the midst of an entry, or lacks some of its bytes, has those before it. Where an entry has another
+byte the file is refused, at the place where that entry begins, and keeps each byte. What is there is what a plain shell
 tells that did the same transactions.
 """
 import os
@@ -14,6 +14,8 @@ import time
 SECONDS = 60
 # how often a shell is killed, and a run; how many transactions more are told before that at most, and the seconds then
 KILLS, KILLED_RUNS, MORE, PAUSE = 40, 10, 4, 0.004
+# how long a file may get on a full disk: longer than the room that it begins with, and no longer than two of these
+FULL = 100_000
 SEED = 20261130
 FIRST = b"""begin
 create
@@ -67,6 +69,14 @@ def log_of(data):
 def bytes_in(path):
     with open(path, "rb") as file:
         return file.read()
+
+
+def written(path):
+    """The blocks of a file, before the room of zeros behind them: each is 65 bytes and as many as it says."""
+    data, end = bytes_in(path), 0
+    while data[end:end + 1] == b"\1":
+        end += 65 + int.from_bytes(data[end + 1:end + 9], "big")
+    return data[:end]
 
 
 def put(path, data):
@@ -147,7 +157,8 @@ def killed_runs_fault(program, folder):
         process = subprocess.Popen([program, "run", "--data", data], stdin=subprocess.PIPE, stdout=subprocess.PIPE)
         process.stdin.write(script)
         process.stdin.close()
-        while not os.path.exists(log_of(data)) or os.path.getsize(log_of(data)) < 200 * (1 + chosen.randrange(40)):
+        least = 200 * (1 + chosen.randrange(40))
+        while not os.path.exists(log_of(data)) or len(written(log_of(data))) < least:
             time.sleep(0.001)
         process.kill()
         output = process.stdout.read()
@@ -159,47 +170,51 @@ def killed_runs_fault(program, folder):
 
 
 def made_steps(program, folder, name):
-    """A new database, and its bytes after each of three transactions."""
+    """A new database, and what its file has after each of three transactions, but for the room behind."""
     data, seen = os.path.join(folder, name), []
     for given in (FIRST, SECOND, THIRD):
         status, _, errors = ran(program, ["shell", "--data", data], given)
         if (status, errors) != (0, b""):
             raise ValueError(f"{given!r}: {status} {errors!r}")
-        seen.append(bytes_in(log_of(data)))
+        seen.append(written(log_of(data)))
     return data, seen
 
 
-def torn_fault(program, folder):
-    """What is wrong where a file ends in the midst of an entry, or None: it has those before, and takes more.
+def torn_tails(second, third):
+    """What a crash may leave of the third transaction: no byte of it, some of its bytes, and bytes behind a zero."""
+    entry = third[len(second):]
+    for missing in (1, 2, 7, 40, len(entry) - 1):
+        yield second + entry[:missing - 1] + b"\0" + entry[missing:]
+        yield second + bytes(missing) + entry[missing:]
+    yield from (second + it for it in (bytes(4096), b"\0" + b"\xff" * 77))
 
-    A file ends with a closed gate, a byte 0, behind which a crash leaves anything. So an entry begins at the last byte
-    that the file had before.
-    """
+
+def torn_fault(program, folder):
+    """What is wrong where a file ends in the midst of an entry, or lacks some of its bytes, or None: it has those before
+    it, and takes more. Behind the last entry stands room of zeros."""
     data, seen = made_steps(program, folder, "torn")
-    third = seen[-1]
-    ends = [0, *(len(it) - 1 for it in seen)]
-    tails = [third[:it] for it in [*range(0, len(third), 5), *ends, *(len(it) for it in seen)]]
-    # what is written behind a gate that isn't open yet, and a file that the system made longer before it was filled
-    tails += [seen[1] + it for it in (third[len(seen[1]):], bytes(4096), b"\xff" * 77)]
+    second, third = seen[1:]
+    ends = [0, *(len(it) for it in seen)]
+    tails = [third[:it] for it in [*range(0, len(third), 5), *ends]] + list(torn_tails(second, third))
     for tail in tails:
         count = max(it for it, end in enumerate(ends) if tail[:end] == third[:end])
         put(log_of(data), tail)
         fault = (told_fault(program, ["log", data], b"", (0, b"".join(ENTRIES[:count]), b""))
                  or told_fault(program, ["shell", "--data", data], b"settle\n", (0, b"nothing\n", b""))
-                 or (None if bytes_in(log_of(data)) == third[:ends[count]] + b"\0" else "another end is cut off"))
+                 or (None if written(log_of(data)) == third[:ends[count]] else "another end is wiped"))
         if fault:
             return f"{len(tail)} bytes of {len(third)}: {fault}"
     put(log_of(data), third[:-2])
-    if ran(program, ["shell", "--data", data], THIRD)[0] or bytes_in(log_of(data)) != third:
+    if ran(program, ["shell", "--data", data], THIRD)[0] or written(log_of(data)) != third:
         return "it doesn't go on where it was cut off"
     return None
 
 
 def damage_fault(program, folder):
-    """What is wrong where a byte of an entry before others is another one, or None."""
+    """What is wrong where a byte of an entry is another one, and no zero, or None."""
     data, (first, second, third) = made_steps(program, folder, "damaged")
-    for at, begin, lines in (100, 0, b""), (len(first) + 60, len(first) - 1, FIRST_ENTRY):
-        damaged = third[:at] + bytes([third[at] ^ 255]) + third[at + 1:]
+    for at, begin, lines in (100, 0, b""), (len(first) + 60, len(first), FIRST_ENTRY):
+        damaged = third[:at] + bytes([third[at] ^ 1]) + third[at + 1:]
         put(log_of(data), damaged)
         told = f"{log_of(data)}: the log is damaged from byte {begin} on\n".encode()
         fault = (told_fault(program, ["shell", "--data", data], b"settle\n", (1, b"", told))
@@ -234,13 +249,13 @@ def no_growth(size):
 
 def full_fault(program, folder):
     """What is wrong where the file can't get longer, or None: it is told after all that was committed before."""
-    many = 20
+    many = 600
     given = MADE + b"".join(typed(it) for it in range(many))
     script = b'{"steps":[' + MADE_STEPS + b"," + b",".join(as_steps(it) for it in range(many)) + b"]}\n"
     for words, input_of in (["shell"], given), (["run"], script):
         wanted = ran(program, words, input_of)[1]
         data = os.path.join(folder, f"full-{words[0]}")
-        status, output, errors = ran(program, [*words, "--data", data], input_of, **no_growth(1500))
+        status, output, errors = ran(program, [*words, "--data", data], input_of, **no_growth(FULL))
         told = output.count(b"committed") - 1
         if (status, errors) != (1, UNWRITTEN) or not wanted.startswith(output) or not 0 < told < many:
             return f"{words[0]}: {status} {errors!r} after {output[-200:]!r}"

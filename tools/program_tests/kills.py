@@ -11,7 +11,7 @@ import shutil
 import subprocess
 import time
 from collections import Counter
-from crashes import bytes_in, log_of, put, ran
+from crashes import log_of, put, ran, written
 
 CLIENTS, SHOPS, KILLS, CUTS = 8, 5, 200, 40
 # the most rounds of the eight clients that are told before a kill, and the most seconds from there to it
@@ -120,15 +120,14 @@ def killed_fault(program, data, chosen):
 
 def cut_fault(program, data, made, folder, chosen):
     """What is wrong with a copy of its file that is cut short at random places, behind its first bytes, or None."""
-    whole = bytes_in(log_of(data))
-    end = len(whole.rstrip(b"\0"))
+    whole = written(log_of(data))
     order, fault = committed_in(program, data)
     for number in range(CUTS):
         if fault:
             return f"cut {number}: {fault}"
         copy = os.path.join(folder, "cut")
         os.makedirs(copy)
-        put(log_of(copy), whole[:chosen.randrange(made, end)])
+        put(log_of(copy), whole[:chosen.randrange(made, len(whole))])
         there, fault = found_in(program, copy)
         if not fault and there != set(order[:len(there)]):
             fault = f"{len(there)} are there, which aren't the first ones"
@@ -140,7 +139,7 @@ def kill_faults(program, folder):
     """What each case shows, and what is wrong with it, or None."""
     data, chosen = os.path.join(folder, "clients"), random.Random(SEED)
     status, output, _ = ran(program, ["shell", "--data", data], MADE)
-    made = len(bytes_in(log_of(data)).rstrip(b"\0")) if status == 0 else 0
+    made = len(written(log_of(data))) if status == 0 else 0
     fault = killed_fault(program, data, chosen) if made else f"it isn't made: {status} {output!r}"
     yield "eight clients whose shell is killed", fault
     yield "the file of eight clients, cut short", fault or cut_fault(program, data, made, folder, chosen)
