@@ -190,8 +190,10 @@ def torn_tails(second, third):
 
 
 def torn_fault(program, folder):
-    """What is wrong where a file ends in the midst of an entry, or lacks some of its bytes, or None: it has those before
-    it, and takes more. Behind the last entry stands room of zeros."""
+    """What is wrong where a file ends in the midst of an entry, or lacks some of its bytes, or None.
+
+    It has the entries before it, and takes more. Behind the last one stands room of zeros.
+    """
     data, seen = made_steps(program, folder, "torn")
     second, third = seen[1:]
     ends = [0, *(len(it) for it in seen)]

@@ -1,4 +1,4 @@
-"""A database in a folder of which eight clients' transactions are open together, whose program is killed again and again.
+"""A database in a folder in which eight clients have transactions open at once, killed again and again.
 
 Each transaction saves two records under an index, a count and a sum. After each kill it is there whole or not at all,
 it is there where it was told to be committed, no index has more or less than the records, and no total. A copy of the
@@ -52,7 +52,8 @@ def told_clients(lines):
 
 
 def killed_once(program, data, first, chosen):
-    """Kills a shell in the midst of a round, after some others. The transactions that were told, and the next number."""
+    """Kills a shell in the midst of a round, after some others. The transactions that were told, and the number of the
+    next one."""
     process = subprocess.Popen([program, "shell", "--data", data], stdin=subprocess.PIPE, stdout=subprocess.PIPE)
     told, most = [], first + CLIENTS * chosen.randrange(ROUNDS + 1)
     while first < most:
