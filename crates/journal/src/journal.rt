@@ -14,8 +14,11 @@ use std::alloc::{AllocError, Global};
 // No file of which a device tells the length is longer.
 const MAX_BYTES: usize = (1 << 63) - 1;
 
-// So many zeros are written ahead of the blocks where their room is used up.
-const ROOM: usize = 1 << 16;
+// Where the room behind the blocks is used up, as many zeros are written as the file has bytes, but
+// no fewer and no more than these.
+const LEAST_ROOM: usize = 1 << 12;
+
+const MOST_ROOM: usize = 1 << 20;
 
 /// The entries of a file, to which more can be added. After a failure of the device it is broken,
 /// and takes none.
@@ -43,7 +46,8 @@ fn growth(alloc: Global, len: usize, place: usize) -> Result<Vec<u8>, AllocError
         return Ok(Vec::new(alloc));
     }
     let most = MAX_BYTES - len;
-    let wanted = (place - len + 1).max(ROOM.min(most));
+    let room = len.max(LEAST_ROOM).min(MOST_ROOM).min(most);
+    let wanted = (place - len + 1).max(room);
     Vec::from_elem(alloc, 0, wanted)
 }
 

@@ -12,8 +12,8 @@ use std::test::Fail;
 /// checkpoint, all.
 static TORN: [usize; 5] = [0, 20, 60, 1000, 1_000_000];
 
-/// How many calls of each device a run makes: its opening, a hundred commits, of which the first one
-/// of the first device writes room ahead, and two checkpoints there, three in the second one.
+/// How many calls of each device a run makes: its opening, a hundred commits, of which the first
+/// one of the first device writes room ahead, and two checkpoints there, three in the second one.
 static CALLS: [usize; 2] = [224, 230];
 
 /// How many calls of a device fail in one test, every fourth one.

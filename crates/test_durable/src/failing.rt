@@ -10,9 +10,9 @@ use std::test::Fail;
 /// How much of the failing call's write stands: nothing, a part of a head, a part of an entry, all.
 static TORN: [usize; 4] = [0, 20, 60, 1000];
 
-/// How many calls of the device a run makes: its opening, two for the room that it writes ahead, and
-/// two for each commit.
-const CALLS: usize = 2 * COUNT + 8;
+/// How many calls of the device a run makes: its opening, two for the room that it writes ahead,
+/// and two for each commit.
+const CALLS: usize = 2 * COUNT + 16;
 
 /// Commits the run's transactions from this place on, and tells how many are acknowledged.
 fn committed<D: Device>(alloc: Global, db: &mut Durable<D>, from: usize) -> Result<usize, Fail> {

@@ -18,7 +18,7 @@ static GATES: [usize; 4] = [0, 82, 167, 253];
 pub const LOOKED_AT: usize = 300;
 
 /// How many bytes a run's file has: a zero, and those for which it grows.
-pub const FILE_BYTES: usize = 1 + (1 << 16);
+pub const FILE_BYTES: usize = 1 + (1 << 12);
 
 /// The entries of the blocks before this place, and the gate of the block in which it lies.
 pub fn block_at(place: usize) -> (usize, usize) {
