@@ -4,5 +4,5 @@ use Rattle.journal.specs.declared.device.Device.{Ghosts}
 use Rattle.commit_log.specs.declared.device_log.DeviceLog.{DeviceLog}
 
 -- the device whose file it is
-abbrev pub log_device : {D : Type 0} {G : Ghosts D} {R : Type 0} → DeviceLog D R G → D
-log_device log = journals.device_of log.journal
+abbrev pub device_of_log : {D : Type 0} {G : Ghosts D} {R : Type 0} → DeviceLog D R G → D
+device_of_log log = journals.device_of log.journal

@@ -1,6 +1,6 @@
 // A log on a device, which stands beside the state of a running database. Made by who opens one.
 ghost use Rattle.std.specs.Prelude.{◌≡◌, [], IfOk};
-ghost use Rattle.commit_log.specs.Standing.{log_device};
+ghost use Rattle.commit_log.specs.Standing.{device_of_log};
 ghost use Rattle.durable.specs.Keeping.{HasLogOf, HasOnDisk, no_base};
 ghost use Rattle.journal.specs.Standing.{device_of};
 ghost use Rattle.journal.specs.Words.{bytes_of_each};
@@ -35,7 +35,7 @@ pub fn begin_log<D: Device + Drop, R: Wait + Drop>(
     alloc: Global,
     device: D,
 ) -> Result<DeviceLog<D, R>, NotBegun>
-    ensures { IfOk result (λ log. HasOnDisk D.seen D.may_leave no_base [] (log_device log)) }
+    ensures { IfOk result (λ log. HasOnDisk D.seen D.may_leave no_base [] (device_of_log log)) }
 {
     let mut kept = Kept::new(alloc);
     let Ok(journal) = recover(alloc, device, &mut kept) else {
@@ -59,11 +59,11 @@ fn bytes_of_all(alloc: Global, entries: &[Entry]) -> Result<Vec<Vec<u8>>, AllocE
 }
 
 impl<D: Device + Drop, R: Wait + Drop> DeviceLog<D, R> {
-    ghost use Rattle.commit_log.specs.Standing.{log_device};
+    ghost use Rattle.commit_log.specs.Standing.{device_of_log};
 
     /// The log of a journal.
     pub fn new(rt: R, journal: Journal<D>) -> DeviceLog<D, R>
-        ensures { log_device result ≡ device_of journal }
+        ensures { device_of_log result ≡ device_of journal }
     {
         DeviceLog { journal, rt }
     }

@@ -14,7 +14,7 @@ use Rattle.runtime.specs.declared.outcome.Outcome.TheVariants.{Committed, Confli
 use Rattle.runtime.specs.CommitStates.{CommitView, IsHandled, commit_view}
 use mathlib.Core.List.{IsPrefix}
 use Rattle.runtime.specs.History.{Name, Prefix}
-use Rattle.runtime.specs.Keeping.{IsBatchOrNone, IsKnown, IsOn, IsSafe, IsStored, Keeps, Stands, is_kept, kept_after, kept_at, kept_by, kept_entry, kept_next, kept_of}
+use Rattle.runtime.specs.Keeping.{IsBatchOrNone, IsOutcomeKnown, IsOn, IsSafe, IsStored, Keeps, IsOnDisk, is_kept, kept_beyond, kept_at, kept_by, kept_entry, kept_next, kept_of}
 use Rattle.runtime.specs.declared.keeping.Keeping.{Keeping}
 use Rattle.runtime.specs.declared.keeping.Keeping.TheVariants.{Off, On, Closed}
 use Rattle.runtime.specs.Logs.{cause_next, version_of}
@@ -23,16 +23,16 @@ use Rattle.runtime.specs.Traces.{changes_of}
 
 -- ---- what is kept of a longer log
 
-kept_append : (config : Config) (log xs ys : List Entry) → kept_after config log (xs ++ ys) ≡ kept_after config log xs ++ kept_after config (log ++ xs) ys
-kept_append config log [] ys = ap (λ l. kept_after config l ys) (sym (append-nil log))
+kept_append : (config : Config) (log xs ys : List Entry) → kept_beyond config log (xs ++ ys) ≡ kept_beyond config log xs ++ kept_beyond config (log ++ xs) ys
+kept_append config log [] ys = ap (λ l. kept_beyond config l ys) (sym (append-nil log))
 kept_append config log (x ∷ xs) ys =
     let head : List KeptEntry = kept_next config log x in
-    let own : List KeptEntry = kept_after config (log ++ x ∷ []) xs in
+    let own : List KeptEntry = kept_beyond config (log ++ x ∷ []) xs in
     ap (λ l. head ++ l) (kept_append config (log ++ x ∷ []) xs ys)
-    ∙ ap (λ l. head ++ (own ++ kept_after config l ys)) (append_assoc log (x ∷ []) xs)
-    ∙ sym (append_assoc head own (kept_after config (log ++ x ∷ xs) ys))
+    ∙ ap (λ l. head ++ (own ++ kept_beyond config l ys)) (append_assoc log (x ∷ []) xs)
+    ∙ sym (append_assoc head own (kept_beyond config (log ++ x ∷ xs) ys))
 
-kept_longer : (config : Config) (log more : List Entry) → kept_of config (log ++ more) ≡ kept_of config log ++ kept_after config log more
+kept_longer : (config : Config) (log more : List Entry) → kept_of config (log ++ more) ≡ kept_of config log ++ kept_beyond config log more
 kept_longer config log more = kept_append config [] log more
 
 committed_by : (why : Option Cause) (next version : ℕ) → decided why next ≡ Committed version → (is_none why ≡ true) × (next ≡ version)
@@ -62,7 +62,7 @@ pub record IsGrown (old new : CommitView) (batch : List KeptEntry) : Type 0 wher
   pub more : List Entry
   pub log : new.log ≡ old.log ++ more
   pub due : new.due ≡ new.log
-  pub kept : kept_after old.name.config old.log more ≡ batch
+  pub kept : kept_beyond old.name.config old.log more ≡ batch
 
 -- nothing more
 grown_none : (old new : CommitView) → old.due ≡ old.log → new.log ≡ old.due → new.due ≡ old.due → IsGrown old new []
@@ -88,7 +88,7 @@ kept_conflict old new e seen range h idle =
     kept_refused old.name.config old.log e seen range (subst (λ (l : List Entry). decided (cause_next old.name.config l e.request) (version_of old.name.config l + 1) ≡ Conflict seen range) idle h.reason)
 
 pub grown : (old new : CommitView) (e : Entry) (outcome : Outcome) (number store : ℕ) (changes : List Change) → IsHandled old new e outcome → old.due ≡ old.log → number ≡ slice_index new.last e.client → store ≡ e.trace.store → changes ≡ changes_of e.trace.attempts.list →
-    IsKnown outcome → IsGrown old new (kept_by outcome e.client number store changes)
+    IsOutcomeKnown outcome → IsGrown old new (kept_by outcome e.client number store changes)
 grown old new e (Committed version) number store changes h idle numbered in_store are known =
     grown_entry old new e _ idle h.added.0 h.added.1 (kept_number old new e version number store changes h idle numbered in_store are)
 grown old new e (Conflict seen range) number store changes h idle numbered in_store are known =
@@ -137,8 +137,8 @@ module _ {E : Type 0} (has : E → List KeptEntry → Type 0) where
       let config : Config = old.name.config in
       let stored : List Entry = on.stored in
       let whole : new.log ≡ stored ++ (on.rest ++ g.more) = g.log ∙ ap (λ l. l ++ g.more) on.log ∙ append_assoc stored on.rest g.more in
-      let more : batch ≡ kept_after config (stored ++ on.rest) g.more = sym g.kept ∙ ap (λ l. kept_after config l g.more) on.log in
-      let all : after ≡ kept_after config stored (on.rest ++ g.more) =
+      let more : batch ≡ kept_beyond config (stored ++ on.rest) g.more = sym g.kept ∙ ap (λ l. kept_beyond config l g.more) on.log in
+      let all : after ≡ kept_beyond config stored (on.rest ++ g.more) =
       is ∙ (λ i. on.waits i ++ more i) ∙ sym (kept_append config stored on.rest g.more) in
       record {
         stored = stored;
@@ -146,7 +146,7 @@ module _ {E : Type 0} (has : E → List KeptEntry → Type 0) where
         begins = subst (λ (l : List Entry). IsPrefix l stored) (sym published) on.begins;
         log = whole;
         kept = subst (λ (n : Name). has end (kept_of n.config stored)) (sym name) on.kept;
-        waits = subst (λ (n : Name). after ≡ kept_after n.config stored (on.rest ++ g.more)) (sym name) all;
+        waits = subst (λ (n : Name). after ≡ kept_beyond n.config stored (on.rest ++ g.more)) (sym name) all;
         idle = g.due;
       }
 
@@ -175,7 +175,7 @@ module _ {E : Type 0} (has : E → List KeptEntry → Type 0) where
     pub safe_on : (state : CommitView) (waiting : List KeptEntry) (end : E) → ((end : E) (entries : List KeptEntry) (file : List ℕ) → has end entries → may_leave end file → is_log file entries) → IsOn has state waiting end → IsSafe may_leave is_log state.name.config state.published end
     safe_on state waiting end law on file left =
         let config : Config = state.name.config in
-        let tail : List KeptEntry = kept_after config state.published on.begins.0 in
+        let tail : List KeptEntry = kept_beyond config state.published on.begins.0 in
         let split : kept_of config on.stored ≡ kept_of config state.published ++ tail = ap (kept_of config) (sym on.begins.1) ∙ kept_longer config state.published on.begins.0 in
         (tail, subst (is_log file) split (law end (kept_of config on.stored) file on.kept left))
 
@@ -195,7 +195,7 @@ module _ {E : Type 0} (has : E → List KeptEntry → Type 0) where
         own = kept_of state.name.config state.published
 
         tail : List KeptEntry
-        tail = kept_after state.name.config state.published on.begins.0
+        tail = kept_beyond state.name.config state.published on.begins.0
 
         split : kept_of state.name.config on.stored ≡ own ++ tail
         split = ap (kept_of state.name.config) (sym on.begins.1) ∙ kept_longer state.name.config state.published on.begins.0
@@ -219,12 +219,12 @@ module _ {E : Type 0} (may_leave : E → List ℕ → Type 0) (is_log : List ℕ
   pub safe_shorter : (config : Config) (log longer : List Entry) (end : E) → IsPrefix log longer → IsSafe may_leave is_log config longer end → IsSafe may_leave is_log config log end
   safe_shorter config log longer end upto safe file left =
       let own : List KeptEntry = kept_of config log in
-      let tail : List KeptEntry = kept_after config log upto.0 in
+      let tail : List KeptEntry = kept_beyond config log upto.0 in
       let split : kept_of config longer ≡ own ++ tail = ap (kept_of config) (sym upto.1) ∙ kept_longer config log upto.0 in
       let all = safe file left in
       (tail ++ all.0, subst (is_log file) (ap (λ l. l ++ all.0) split ∙ append_assoc own tail all.0) all.1)
 
-  stands_safe : (has : E → List KeptEntry → Type 0) (keeping : Keeping) (state : CommitView) (waiting : List KeptEntry) (end : E) → ((end : E) (entries : List KeptEntry) (file : List ℕ) → has end entries → may_leave end file → is_log file entries) → Stands has may_leave is_log keeping state waiting end → is_kept keeping ≡ true →
+  stands_safe : (has : E → List KeptEntry → Type 0) (keeping : Keeping) (state : CommitView) (waiting : List KeptEntry) (end : E) → ((end : E) (entries : List KeptEntry) (file : List ℕ) → has end entries → may_leave end file → is_log file entries) → IsOnDisk has may_leave is_log keeping state waiting end → is_kept keeping ≡ true →
       IsSafe may_leave is_log state.name.config state.published end
   stands_safe has Off state waiting end law stands is = absurd (true≢false (sym is))
   stands_safe has On state waiting end law stands is = safe_on has may_leave is_log state waiting end law stands

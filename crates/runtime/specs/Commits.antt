@@ -1,5 +1,6 @@
 -- What a commit answers, and what the client knows then.
-use Rattle.std.specs.Prelude.{◌≡◌, ◌+◌, Bool, false, List, ℕ, Option, Some, None, Result, Ok, Err, IfSome, if◌then◌else◌, ⊤}
+use Rattle.std.specs.Prelude.{◌≡◌, ◌+◌, Bool, false, List, ℕ, Option, Some, None, Result, Ok, Err, IfSome}
+use Rattle.std.specs.Prelude.{if◌then◌else◌, ⊤}
 use mathlib.Core.List.{IsPrefix}
 use Rattle.command_log.specs.declared.entry.Entry.{Entry as KeptEntry}
 use Rattle.kv_core.specs.declared.change.CommitRequest.{CommitRequest}

@@ -32,13 +32,13 @@ kept_next config log e =
     if is_none (cause_next config log e.request) then kept_at (version_of config log + 1) e ∷ [] else []
 
 -- of the entries after a log, in their order
-abbrev pub kept_after : Config → List Entry → List Entry → List KeptEntry
-kept_after config log [] = []
-kept_after config log (e ∷ es) = kept_next config log e ++ kept_after config (log ++ e ∷ []) es
+abbrev pub kept_beyond : Config → List Entry → List Entry → List KeptEntry
+kept_beyond config log [] = []
+kept_beyond config log (e ∷ es) = kept_next config log e ++ kept_beyond config (log ++ e ∷ []) es
 
 -- KEPT: of all entries of a log
 abbrev pub kept_of : Config → List Entry → List KeptEntry
-kept_of config log = kept_after config [] log
+kept_of config log = kept_beyond config [] log
 
 -- ---- what a crash leaves
 
@@ -55,30 +55,31 @@ IsSafe may_leave is_log config log end =
 
 -- ---- the locked state
 
--- a state, what stands beside it, whether what is committed is kept, and what of it waits to be kept
+-- Private: a state, what stands beside it, whether what is committed is kept, and what of it waits to be kept
 pub record LockedView (E : Type 0) : Type 0 where
   pub state : CommitView
   pub end : E
   pub keeping : Keeping
   pub waiting : List KeptEntry
 
+-- Private: the same by its parts
 abbrev pub locked_view : {E : Type 0} → CommitView → E → Keeping → List KeptEntry → LockedView E
 locked_view state end keeping waiting = record { state = state; end = end; keeping = keeping; waiting = waiting }
 
--- what is committed is kept, or was as long as anything was committed
+-- Private: what is committed is kept, or was as long as anything was committed
 abbrev pub is_kept : Keeping → Bool
 is_kept Off = false
 is_kept On = true
 is_kept Closed = true
 
--- it was kept, and nothing is committed any more
+-- Private: it was kept, and nothing is committed any more
 abbrev pub is_closed : Keeping → Bool
 is_closed Off = false
 is_closed On = false
 is_closed Closed = true
 
--- entries are kept: the file has just what is kept of a beginning of the log, all that readers see among it; what is kept
--- of the rest waits, in order; and nothing is in flight
+-- Private: entries are kept: the file has just what is kept of a beginning of the log, all that readers see among it;
+-- what is kept of the rest waits, in order; and nothing is in flight
 pub record IsOn {E : Type 0} (has : E → List KeptEntry → Type 0) (state : CommitView) (waiting : List KeptEntry)
     (end : E) : Type 0 where
   pub stored : List Entry
@@ -86,27 +87,27 @@ pub record IsOn {E : Type 0} (has : E → List KeptEntry → Type 0) (state : Co
   pub begins : IsPrefix state.published stored
   pub log : state.log ≡ stored ++ rest
   pub kept : has end (kept_of state.name.config stored)
-  pub waits : waiting ≡ kept_after state.name.config stored rest
+  pub waits : waiting ≡ kept_beyond state.name.config stored rest
   pub idle : state.due ≡ state.log
 
--- what is on the disk beside a state. Once no more entries are kept, each crash leaves what is kept of those that
--- readers see
-abbrev pub Stands :
+-- Private: what is on the disk beside a state. Once no more entries are kept, each crash leaves what is kept of those
+-- that readers see
+abbrev pub IsOnDisk :
     {E : Type 0} → (E → List KeptEntry → Type 0) → (E → List ℕ → Type 0) → (List ℕ → List KeptEntry → Type 0) →
     Keeping → CommitView → List KeptEntry → E → Type 0
-Stands has may_leave is_log Off state waiting end = ⊤
-Stands has may_leave is_log On state waiting end = IsOn has state waiting end
-Stands has may_leave is_log Closed state waiting end = IsSafe may_leave is_log state.name.config state.published end
+IsOnDisk has may_leave is_log Off state waiting end = ⊤
+IsOnDisk has may_leave is_log On state waiting end = IsOn has state waiting end
+IsOnDisk has may_leave is_log Closed state waiting end = IsSafe may_leave is_log state.name.config state.published end
 
--- KEEPS: a database whose entries are kept stays one, and so much of them is on the disk
+-- Private: a database whose entries are kept stays one, and so much of them is on the disk
 abbrev pub Keeps :
     {E : Type 0} → (E → List KeptEntry → Type 0) → (E → List ℕ → Type 0) → (List ℕ → List KeptEntry → Type 0) →
     Keeping → CommitView → List KeptEntry → E → Type 0
 Keeps has may_leave is_log keeping state waiting end =
-    (is_kept keeping ≡ state.name.kept) × Stands has may_leave is_log keeping state waiting end
+    (is_kept keeping ≡ state.name.kept) × IsOnDisk has may_leave is_log keeping state waiting end
 
--- STORED: where what is committed is kept, there was a moment at which each crash left what is kept of all entries of this
--- log, and maybe more after it
+-- STORED: where what is committed is kept, there was a moment at which each crash left what is kept of all entries of
+-- this log, and maybe more after it
 abbrev pub IsStored :
     {E : Type 0} → (E → List ℕ → Type 0) → (List ℕ → List KeptEntry → Type 0) → Prefix → Type 0
 IsStored {E} may_leave is_log prefix =
@@ -120,9 +121,9 @@ kept_by (Committed version) client number store changes = kept_entry version cli
 kept_by outcome client number store changes = []
 
 -- Private: it is known what became of the request
-abbrev pub IsKnown : Outcome → Type 0
-IsKnown Unknown = ⊥
-IsKnown outcome = ⊤
+abbrev pub IsOutcomeKnown : Outcome → Type 0
+IsOutcomeKnown Unknown = ⊥
+IsOutcomeKnown outcome = ⊤
 
 -- Private: what is told of it
 abbrev pub told_if : Bool → Outcome → Outcome

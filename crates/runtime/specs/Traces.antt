@@ -33,5 +33,5 @@ abbrev pub changes_of : List Performed → List Change
 changes_of done = filter_map change_of (accepted (attempts_of done))
 
 -- Private: the change that one command more is: none where it isn't accepted, or only looks
-abbrev pub change_by : Performed → List Change
-change_by one = if is_accepted one.reply then option_to_list (change_of one.command) else []
+abbrev pub change_of_one : Performed → List Change
+change_of_one one = if is_accepted one.reply then option_to_list (change_of one.command) else []

@@ -161,9 +161,9 @@ impl<E: End> Client<E> {
         self.me.again()
     }
 
-    /// What keeps the database's log, as it is now, and the published log, where what is committed is
-    /// kept: each crash leaves what is kept of all entries of that log, and maybe more after it. None
-    /// where nothing is kept. It waits for those that commit.
+    /// What keeps the database's log, as it is now, and the published log, where what is committed
+    /// is kept: each crash leaves what is kept of all entries of that log, and maybe more after it.
+    /// None where nothing is kept. It waits for those that commit.
     ///
     /// So it is of the client's own log where the published one begins with that.
     pub fn look_at_log<R: Wait>(&mut self, rt: &R) -> Option<(Snapshot<E>, LogPrefix)>

@@ -247,12 +247,12 @@ impl CommitState {
         }
     }
 
-    /// Finishes what an earlier request left in flight. Then has every role handle the request of a
-    /// transaction over this log, adds its entry, with the client's next number, and tells what
+    /// Finishes what an earlier request left in flight. Then has every role handle the request of
+    /// a transaction over this log, adds its entry, with the client's next number, and tells what
     /// became of it. `TooOld` and `VersionsExhausted` are as the pipeline refuses it; `Memory` is
-    /// told where memory runs out before, also in finishing, where there is no such client, or where
-    /// the transaction's log isn't a beginning of the one here. Nothing is submitted then. After
-    /// `Unknown` it stands submitted, and the next call finishes it.
+    /// told where memory runs out before, also in finishing, where there is no such client, or
+    /// where the transaction's log isn't a beginning of the one here. Nothing is submitted then.
+    /// After `Unknown` it stands submitted, and the next call finishes it.
     pub fn request(
         &mut self,
         client: u64,

@@ -51,7 +51,7 @@ fn keep_all<E: End, R: Wait>(
     // Nothing waits any more.
     ensures none { result.waiting ≡ [] }
 
-    // A crash at any moment of the call leaves what was kept before, with all that waits or nothing.
+    // A crash at any moment of the call leaves what was kept before, with all that waits or none.
     ensures any_moment { (before : List KeptEntry) → E.has end before
         → LeavesOnly E.moment E.left_since end result.end
         (IsBatchOrNone E.is_log before waiting.items) }

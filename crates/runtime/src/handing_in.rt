@@ -1,10 +1,10 @@
-// What is done with one request under the commit lock: it is handed in, and where the log isn't kept
-// its entry is published. Called by `critical_section`.
+// What is done with one request under the commit lock: it is handed in, and where the log isn't
+// kept its entry is published. Called by `critical_section`.
 ghost use Rattle.std.specs.Prelude.{◌≡◌, ◌++◌, IfSome, None, false, slice_index, true};
 ghost use Rattle.std.specs.Bool.{OnFalse, OnTrue};
 ghost use Rattle.runtime.specs.Commits.{IsLogOf};
 ghost use Rattle.runtime.specs.History.{log_prefix};
-ghost use Rattle.runtime.specs.Keeping.{IsKnown, IsOn, is_closed, kept_by, told_if};
+ghost use Rattle.runtime.specs.Keeping.{IsOutcomeKnown, IsOn, is_closed, kept_by, told_if};
 ghost use Rattle.runtime.specs.Logs.{IsOpenOver};
 ghost use Rattle.runtime.specs.Outcomes.{GivesOne, IsEndOf, Shows, gives_number, next_entry};
 
@@ -171,7 +171,7 @@ fn add_waiting(
     changes: Changes,
 ) -> (Outcome, bool)
     ensures told { result.0 ≡ told_if result.1 outcome }
-    ensures known { OnTrue result.1 (IsKnown outcome) }
+    ensures known { OnTrue result.1 (IsOutcomeKnown outcome) }
     ensures given { OnFalse result.1 (gives_number outcome ≡ true) }
     ensures waits { OnTrue result.1 (waiting.new.items
         ≡ waiting.old.items ++ kept_by outcome client number store changes) }
@@ -258,7 +258,8 @@ fn hand_in_kept<E: End>(
     (LockedState::of(state, end, Keeping::On, waiting), told)
 }
 
-/// Hands a request in, by whether what is committed is kept. Where it isn't, its entry is published.
+/// Hands a request in, by whether what is committed is kept. Where it isn't, its entry is
+/// published.
 pub fn hand_in<E: End, R: Wait>(
     rt: &R,
     owned: LockedState<E>,

@@ -109,8 +109,8 @@ impl Model for LogPrefix {
     ghost invariant = { λ f. (f.count ≡ length f.seen.log) × IsWellFormedLog f.log_config f.seen.log };
 }
 
-/// A new history, which is empty, of a database of this configuration, in which what is committed is
-/// kept, or isn't.
+/// A new history, which is empty, of a database of this configuration, in which what is committed
+/// is kept, or isn't.
 #[tactic(auto, using(crate::proofs::WellFormed::lawful_first))]
 pub fn opened(config: &Config, kept: bool) -> (LogHead, LogPrefix)
     ensures empty { result.1.log ≡ [] }

@@ -18,8 +18,8 @@ pub struct OpenTransaction {
 }
 
 impl OpenTransaction {
-    /// A transaction in a store at the version of a log, which has done nothing yet. What it changes
-    /// is recorded where that is kept.
+    /// A transaction in a store at the version of a log, which has done nothing yet. What it
+    /// changes is recorded where that is kept.
     #[tactic(auto, using(crate::proofs::WellFormed::open_first))]
     pub fn new(alloc: Global, prefix: LogPrefix, store: StoreNumber) -> OpenTransaction
         ensures prefix { result.prefix ≡ prefix }

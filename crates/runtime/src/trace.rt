@@ -3,7 +3,7 @@
 // and `handing_in`.
 ghost use Rattle.std.specs.Prelude.{◌≡◌, ◌++◌, true, [], IfSome, Some};
 ghost use Rattle.record_store.specs.Layout.{is_store_number};
-ghost use Rattle.runtime.specs.Traces.{change_by, changes_of, with_performed};
+ghost use Rattle.runtime.specs.Traces.{change_of_one, changes_of, with_performed};
 
 use crate::performed::Attempts;
 use crate::replies::is_accepted;
@@ -43,7 +43,7 @@ impl Model for Trace {
 fn with_change(before: Option<Changes>, command: &Command, reply: &Reply) -> Option<Changes>
     ensures { IfSome result (λ after. (changes : _) × (before ≡ Some changes)
         × (after ≡ changes
-        ++ change_by (record { command = command.now; reply = reply.now }))) }
+        ++ change_of_one (record { command = command.now; reply = reply.now }))) }
 {
     let Some(changes) = before else {
         return None;

@@ -3,7 +3,7 @@ use Rattle.command_log.specs.declared.entry.Entry.{Entry as KeptEntry}
 use Rattle.runtime.specs.declared.log_entry.Entry.{Entry}
 use Rattle.runtime.specs.declared.outcome.Outcome.{Outcome}
 use Rattle.runtime.specs.History.{Name}
-use Rattle.runtime.specs.Keeping.{IsKnown, IsOn, IsSafe, kept_by}
+use Rattle.runtime.specs.Keeping.{IsOutcomeKnown, IsOn, IsSafe, kept_by}
 use Rattle.runtime.specs.Outcomes.{next_entry}
 use Rattle.runtime.specs.Traces.{Trace, changes_of}
 use Rattle.runtime.proofs.Kept.{IsGrown, adds_on, closes_unwritten, grown}
@@ -27,7 +27,7 @@ of-requires-2 g c =
     let one : Entry = next_entry c.args.state.last c.args.client c.args.request c.take_changes.new.self in
     let in_store : c.store-store.result ≡ one.trace.store = c.store-store.ensures in
     let changes : c.in-Some.changes ≡ changes_of one.trace.attempts.list = c.in-Some.ensures.changes ∙ ap (λ (t : Trace). changes_of t.attempts.list) (sym trace) in
-    let known : IsKnown outcome = search rules in
+    let known : IsOutcomeKnown outcome = search rules in
     let batch : List KeptEntry = kept_by outcome c.args.client c.last_number-number.result c.store-store.result c.in-Some.changes in
     let more : IsGrown c.args.state c.request-handed.new.self batch =
     grown c.args.state c.request-handed.new.self one outcome c.last_number-number.result c.store-store.result c.in-Some.changes h c.requires.on.1.idle c.last_number-number.ensures in_store changes known in
