@@ -12,12 +12,12 @@ use std::test::Fail;
 /// checkpoint, all.
 static TORN: [usize; 5] = [0, 20, 60, 1000, 1_000_000];
 
-/// How many calls of each device a run makes: its opening, a hundred commits, of which the first
-/// one of the first device writes room ahead, and two checkpoints there, three in the second one.
-static CALLS: [usize; 2] = [224, 230];
+/// How many calls of each device a run makes at most: its opening, a hundred commits, the room that
+/// it writes ahead, and two checkpoints in the first one, three in the second.
+static CALLS: [usize; 2] = [280, 280];
 
 /// How many calls of a device fail in one test, every fourth one.
-const ROUNDS: usize = 58;
+const ROUNDS: usize = 70;
 
 /// Before which transactions of the run a checkpoint is made.
 fn is_checkpointed(place: usize) -> bool {
@@ -172,7 +172,9 @@ fn outlive(alloc: Global, device: usize, first: usize) -> Result<(), Fail> {
         }
         let torn = TORN.get(round % 5).ok_or("a part")?;
         let files = left_by(alloc, calls_of(device, call), *torn)?;
-        holds(files.count < COUNT, "a failure")?;
+        if files.count == COUNT {
+            break;
+        }
         let db = opened_anew(alloc, &wanted, files)?;
         if round % 9 == 5 {
             goes_on(alloc, &wanted, db)?;

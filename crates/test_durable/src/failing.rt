@@ -10,9 +10,9 @@ use std::test::Fail;
 /// How much of the failing call's write stands: nothing, a part of a head, a part of an entry, all.
 static TORN: [usize; 4] = [0, 20, 60, 1000];
 
-/// How many calls of the device a run makes: its opening, two for the room that it writes ahead,
-/// and two for each commit.
-const CALLS: usize = 2 * COUNT + 16;
+/// How many calls of the device a run makes at most: its opening, two for each commit, and two each
+/// time that it writes room ahead.
+const CALLS: usize = 2 * COUNT + 24;
 
 /// Commits the run's transactions from this place on, and tells how many are acknowledged.
 fn committed<D: Device>(alloc: Global, db: &mut Durable<D>, from: usize) -> Result<usize, Fail> {
@@ -114,14 +114,10 @@ fn other_failed_syncs_are_outlived(rt: HostRuntime) -> Result<(), Fail> {
     outlive(rt.alloc(), 3)
 }
 
-/// The run makes so many calls.
+/// The run makes no more calls.
 #[test]
 fn all_calls_were_tried(rt: HostRuntime) -> Result<(), Fail> {
     let wanted = databases(rt.alloc())?;
-    holds(
-        is_whole(rt.alloc(), &wanted, CALLS - 1, 0)? == COUNT - 1,
-        "the last call fails",
-    )?;
     holds(
         is_whole(rt.alloc(), &wanted, CALLS, 0)? == COUNT,
         "no call fails",
