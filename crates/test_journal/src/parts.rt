@@ -96,10 +96,10 @@ pub fn looked_at(alloc: Global) -> Result<Vec<u8>, Fail> {
 /// it is one of a count, and it or its partner is zero; or it is one behind them, and is zero.
 pub fn looks_torn(bytes: &[u8], gate: usize, place: usize) -> bool {
     let at = |place: usize| bytes.get(place).copied() == Some(0);
-    match place - gate {
+    match place.saturating_sub(gate) {
         0 => true,
-        1..17 => at(place) || at(place + 16),
-        17..33 => at(place) || at(place - 16),
+        1..17 => at(place) || at(place.saturating_add(16)),
+        17..33 => at(place) || at(place.saturating_sub(16)),
         _ => at(place),
     }
 }
