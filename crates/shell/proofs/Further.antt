@@ -2,11 +2,9 @@
 use Rattle.std.proofs.Common.{◌≡◌, ◌∙◌, ℕ, ◌+◌, ◌<◌, List, [], ◌∷◌, ◌++◌, length, get_or, take, ap, sym, subst₂, append-nil, append_assoc}
 use Rattle.std.proofs.lemmas.List.{take_more}
 use Rattle.cluster_core.specs.declared.answers.Config.{Config}
-use Rattle.cluster_core.specs.Configuration.{first_cluster}
 use Rattle.schedule.specs.declared.step.Step.{Step}
 use Rattle.schedule.specs.declared.reply.Reply.{Reply}
 use Rattle.schedule.specs.Stepwise.{DoesNext, HasDoneFrom, StepwiseState}
-use Rattle.logged_schedule.specs.Opening.{from_version}
 use Rattle.shell.specs.Further.{HasDoneNext, IsAfter, IsFurther, IsOfStepsOver}
 
 -- ---- steps up to a place
@@ -52,7 +50,7 @@ further_both a b c first last start so_far = last start (first start so_far)
 
 -- where some steps were done, and then some more
 pub steps_further : (config : Config) (start : ℕ) (before after : StepwiseState) → IsFurther before after → IsOfStepsOver config start before → IsOfStepsOver config start after
-steps_further config start before after further (steps, replies, done) =
+steps_further config start before after further (steps, replies, (log, lawful, done)) =
     let (more, next) = further before (after_none before) in
-    let (told, longer) = next (first_cluster (from_version start config)) steps replies done in
-    (steps ++ more, replies ++ told, longer)
+    let (told, longer) = next _ steps replies done in
+    (steps ++ more, replies ++ told, (log, lawful, longer))
