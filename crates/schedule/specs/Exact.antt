@@ -46,7 +46,7 @@ IsExactReply before c commits open_now command reply =
     ⊎ IsReadRefusal (λ range. MayRefuse (tier_of c) range open_now.read_version)
     (reach number (opened_in number seen) command (after_all written at_read)) reply
 
--- Private: so it is for all stores that the base of the cluster holds
+-- so it is for all stores that the base of the cluster holds
 abbrev pub IsReplyHeld : ClusterState → List CommitEntry → Open → Command → Reply → Type 0
 IsReplyHeld c commits open_now command reply =
     (before : Stores) → HoldsAll c.base before → IsExactReply before c commits open_now command reply

@@ -55,7 +55,7 @@ cluster_from first requests [] = first
 cluster_from first requests (event ∷ past) =
     cluster_stepped requests event.0 event.1 (cluster_from first requests past)
 
--- so it is from the start of a configuration on
+-- Private: so it is from the start of a configuration on
 abbrev pub cluster_after : Config → List CommitRequest → Past → ClusterState
 cluster_after config requests past = cluster_from (first_cluster config) requests past
 

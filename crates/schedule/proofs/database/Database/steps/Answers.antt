@@ -12,7 +12,7 @@ step-requires-clause-stands c =
     (past_of [] (take c.loop-step.step-index c.args.steps.now) c.loop-step.replies.items, (c.loop-step.invariant c.requires.0 c.requires.1).0.stands)
 
 pub step-requires-clause-held : goal.step-requires-clause-held
-step-requires-clause-held c yes =
+step-requires-clause-held c stay =
     subst IsHeld
     (sym (run_base (first_cluster c.requires.0) (take c.loop-step.step-index c.args.steps.now) c.loop-step.replies.items c.loop-step.self (c.loop-step.invariant c.requires.0 c.requires.1).0)) (no_stores, holds_nothing)
 
