@@ -2,7 +2,7 @@
 use denote.RattleType.{RattleType}
 use denote.Param.Send.{IsSend, struct_send, recorded_send}
 use denote.Struct.Declared.{shape}
-use Rattle.runtime.specs.declared.critical_section.End.{Ghosts}
+use Rattle.runtime.specs.declared.locked_state.End.{Ghosts}
 use Rattle.runtime.proofs.Sendable.{client_send}
 use Rattle.bench_threads.proofs.threads.Work.TheSendSync as work
 use Rattle.bench_threads.specs.contracts.threads.Job as Job

@@ -7,21 +7,22 @@ use Rattle.std.specs.List.{AllByRecursion, slice_get, slice_index, slice_set}
 use Rattle.std.specs.Option.{is_some, option_map}
 use Rattle.std.proofs.lemmas.Option.{get_or_from_slice_get, slice_get-map}
 use Rattle.kv_core.proofs.Pairs.{first_value-point}
+use Rattle.kv_core.specs.Map.{Map}
 use Rattle.kv_core.specs.Range.{KeyRange, point}
 use Rattle.kv_core.specs.Read.{first_value, read_of}
 use Rattle.kv_core.specs.declared.change.CommitRequest.{CommitRequest}
 use Rattle.kv_core.specs.declared.change.Mutation.{Mutation}
 use Rattle.cluster_core.specs.Cluster.{ClusterState, HasSameServers, database_at, done_with_by, maps_back, may_pull, pull, server_at, servers_at, tier_of}
-use Rattle.cluster_core.specs.Configuration.{config_refusal, first_cluster, first_pipeline, first_tier}
+use Rattle.cluster_core.specs.Configuration.{config_refusal, first_cluster_over, first_pipeline, first_server_over, first_tier, first_tier_over}
 use Rattle.cluster_core.specs.Decision.{Owned, log, owners}
-use Rattle.cluster_core.specs.History.{map_at}
+use Rattle.cluster_core.specs.History.{map_over}
 use Rattle.cluster_core.specs.Pulled.{IsCluster, clocks_of, cluster_of}
 use Rattle.cluster_core.specs.Roles.{PipelineState, entries, history, submit, submitted}
 use Rattle.cluster_core.specs.Server.{first_server}
-use Rattle.cluster_core.specs.Tier.{ServerState, TierState, absorb, refusal, whole_map}
+use Rattle.cluster_core.specs.Tier.{ServerState, TierState, absorb, part, refusal, whole_map}
 use Rattle.cluster_core.specs.declared.answers.Config.{Config}
 use Rattle.cluster_core.proofs.Configured.{some_log}
-use Rattle.cluster_core.proofs.Growth.{maps_stay}
+use Rattle.cluster_core.proofs.Growth.{maps_stay_over}
 use Rattle.cluster_core.proofs.PulledMaps.{absorb-next, read-database, same-servers, server-there, servers-raised}
 use Rattle.cluster_core.proofs.StorageMaps.{part-empty}
 
@@ -30,31 +31,31 @@ none_from None h = refl
 none_from (Some x) h = absurd (true≢false h)
 
 -- what the servers answer is what the database has
-pub read-cluster : (pipeline : PipelineState) (tier : TierState) (range : KeyRange) (version limit : ℕ) (b : Bool) → IsCluster pipeline tier →
-    is_some (refusal tier range version) ≡ false → read_of (whole_map tier version) range limit b ≡ read_of (database_at (cluster_of pipeline tier) version) range limit b
-read-cluster pipeline tier range version limit b is allowed =
+pub read-cluster : (base : Map) (pipeline : PipelineState) (tier : TierState) (range : KeyRange) (version limit : ℕ) (b : Bool) → IsCluster base pipeline tier →
+    is_some (refusal tier range version) ≡ false → read_of (whole_map tier version) range limit b ≡ read_of (database_at (cluster_of base pipeline tier) version) range limit b
+read-cluster base pipeline tier range version limit b is allowed =
     ap (λ t. read_of (whole_map t version) range limit b) is.servers
-    ∙ read-database (cluster_of pipeline tier) range version limit b is.counts is.started
+    ∙ read-database (cluster_of base pipeline tier) range version limit b is.counts is.started
     (ap (λ t. refusal t range version) (sym is.servers) ∙ none_from (refusal tier range version) allowed)
 
-pub value-cluster : (pipeline : PipelineState) (tier : TierState) (key : List ℕ) (version : ℕ) → IsCluster pipeline tier →
-    is_some (refusal tier (point key) version) ≡ false → get (whole_map tier version) key ≡ get (database_at (cluster_of pipeline tier) version) key
-value-cluster pipeline tier key version is allowed =
-    sym (first_value-point (whole_map tier version) key) ∙ ap first_value (read-cluster pipeline tier (point key) version 1 false is allowed)
-    ∙ first_value-point (database_at (cluster_of pipeline tier) version) key
+pub value-cluster : (base : Map) (pipeline : PipelineState) (tier : TierState) (key : List ℕ) (version : ℕ) → IsCluster base pipeline tier →
+    is_some (refusal tier (point key) version) ≡ false → get (whole_map tier version) key ≡ get (database_at (cluster_of base pipeline tier) version) key
+value-cluster base pipeline tier key version is allowed =
+    sym (first_value-point (whole_map tier version) key) ∙ ap first_value (read-cluster base pipeline tier (point key) version 1 false is allowed)
+    ∙ first_value-point (database_at (cluster_of base pipeline tier) version) key
 
 lower : (m n : ℕ) (clocks : List ℕ) → m ≤ n → AllByRecursion (λ clock. clock ≤ m) clocks → AllByRecursion (λ clock. clock ≤ n) clocks
 lower m n [] h all = tt
 lower m n (c ∷ clocks) h all = let one : c ≤ m = all.0 in (omega (arith, h, one), lower m n clocks h all.1)
 
 -- a pipeline that goes on leaves the servers those that their clocks say
-went-on : (p q : PipelineState) (tier : TierState) → q.window ≡ p.window → q.start ≡ p.start → q.forgotten ≡ p.forgotten → submitted p ≤ submitted q →
-    ((version : ℕ) → version ≤ submitted p → map_at (history q) version ≡ map_at (history p) version) → 1 ≤ length q.logged → IsCluster p tier → IsCluster q tier
-went-on p q tier window start forgotten more same some is = record {
+went-on : (base : Map) (p q : PipelineState) (tier : TierState) → q.window ≡ p.window → q.start ≡ p.start → q.forgotten ≡ p.forgotten → submitted p ≤ submitted q →
+    ((version : ℕ) → version ≤ submitted p → map_over base (history q) version ≡ map_over base (history p) version) → 1 ≤ length q.logged → IsCluster base p tier → IsCluster base q tier
+went-on base p q tier window start forgotten more same some is = record {
   servers = is.servers ∙ (λ i. record {
     splits = tier.splits;
     window = sym window i;
-    servers = sym (same-servers p q (submitted p) window start same (owners tier.splits) (clocks_of tier) is.given) i;
+    servers = sym (same-servers base p q (submitted p) window start same (owners tier.splits) (clocks_of tier) is.given) i;
   });
   counts = is.counts;
   some_log = some;
@@ -63,11 +64,11 @@ went-on p q tier window start forgotten more same some is = record {
   unpulled = subst (λ n. AllByRecursion (λ clock. n ≤ clock) (clocks_of tier)) (λ i. sym start i + sym forgotten i) is.unpulled;
 }
 
-pub went-submit : (p : PipelineState) (request : CommitRequest) (tier : TierState) → IsCluster p tier → IsCluster (submit request p) tier
-went-submit p request tier is =
-    went-on p (submit request p) tier refl refl refl
+pub went-submit : (base : Map) (p : PipelineState) (request : CommitRequest) (tier : TierState) → IsCluster base p tier → IsCluster base (submit request p) tier
+went-submit base p request tier is =
+    went-on base p (submit request p) tier refl refl refl
     (let n : length (p.requests ++ request ∷ []) ≡ length p.requests + 1 = length-append p.requests (request ∷ []) in omega (arith, n))
-    (λ version below. maps_stay p.splits p.start p.requests request version below) is.some_log is
+    (λ version below. maps_stay_over base p.splits p.start p.requests request version below) is.some_log is
 
 -- the clock of the server at a place
 clock-there : (tier : TierState) (s version : ℕ) (server : ServerState) → slice_get (clocks_of tier) s ≡ Some version → slice_get tier.servers s ≡ Some server → server.version ≡ version
@@ -100,40 +101,40 @@ All-set P (c ∷ clocks) zero clock all one = (one, all.1)
 All-set P (c ∷ clocks) (suc s) clock all one = (all.0, All-set P clocks s clock all.1 one)
 
 -- one server pulled what its log has of its next version
-module _ (p : PipelineState) (tier new : TierState) (s version : ℕ) (mutations : List Mutation) (is : IsCluster p tier) (at : slice_get (clocks_of tier) s ≡ Some version)
+module _ (base : Map) (p : PipelineState) (tier new : TierState) (s version : ℕ) (mutations : List Mutation) (is : IsCluster base p tier) (at : slice_get (clocks_of tier) s ≡ Some version)
     (logged : slice_get (log p.splits (entries p)) (version - p.start) ≡ Some mutations) (next : version < submitted p)
     (done : (owner : Owned) (server : ServerState) → slice_get (owners tier.splits) s ≡ Some owner → slice_get tier.servers s ≡ Some server →
     new ≡ record tier { servers = slice_set tier.servers s (absorb tier.window owner mutations server) }) where
   after_pull : Owned → TierState
-  after_pull owner = record { splits = tier.splits; window = tier.window; servers = slice_set tier.servers s (server_at p owner (version + 1)) }
+  after_pull owner = record { splits = tier.splits; window = tier.window; servers = slice_set tier.servers s (server_at base p owner (version + 1)) }
 
   owned : (owner : Owned) × (slice_get (owners tier.splits) s ≡ Some owner)
   owned = let below = within (clocks_of tier) s version at in found (owners tier.splits) s (subst (λ n. s < n) is.counts below)
 
-  stood : slice_get tier.servers s ≡ Some (server_at p owned.0 version)
-  stood = ap (λ t. slice_get t.servers s) is.servers ∙ server-there p (owners tier.splits) (clocks_of tier) s owned.0 version owned.1 at
+  stood : slice_get tier.servers s ≡ Some (server_at base p owned.0 version)
+  stood = ap (λ t. slice_get t.servers s) is.servers ∙ server-there base p (owners tier.splits) (clocks_of tier) s owned.0 version owned.1 at
 
   pulled-new : new ≡ after_pull owned.0
   unfolding after_pull
   pulled-new =
-      let fresh : absorb tier.window owned.0 mutations (server_at p owned.0 version) ≡ server_at p owned.0 (version + 1) =
-      ap (λ t. absorb t.window owned.0 mutations (server_at p owned.0 version)) is.servers
-      ∙ absorb-next p owned.0 version mutations (All-get (λ clock. p.start ≤ clock) (clocks_of tier) s version is.started at) logged in
-      done owned.0 (server_at p owned.0 version) owned.1 stood ∙ (λ i. record { splits = tier.splits; window = tier.window; servers = slice_set tier.servers s (fresh i) })
+      let fresh : absorb tier.window owned.0 mutations (server_at base p owned.0 version) ≡ server_at base p owned.0 (version + 1) =
+      ap (λ t. absorb t.window owned.0 mutations (server_at base p owned.0 version)) is.servers
+      ∙ absorb-next base p owned.0 version mutations (All-get (λ clock. p.start ≤ clock) (clocks_of tier) s version is.started at) logged in
+      done owned.0 (server_at base p owned.0 version) owned.1 stood ∙ (λ i. record { splits = tier.splits; window = tier.window; servers = slice_set tier.servers s (fresh i) })
 
   clocks-after : clocks_of (after_pull owned.0) ≡ slice_set (clocks_of tier) s (version + 1)
   unfolding after_pull
-  clocks-after = map-set (λ x. x.version) tier.servers s (server_at p owned.0 (version + 1))
+  clocks-after = map-set (λ x. x.version) tier.servers s (server_at base p owned.0 (version + 1))
 
-  servers-after : after_pull owned.0 ≡ tier_of (cluster_of p (after_pull owned.0))
+  servers-after : after_pull owned.0 ≡ tier_of (cluster_of base p (after_pull owned.0))
   unfolding after_pull
   servers-after =
-      let all : slice_set tier.servers s (server_at p owned.0 (version + 1)) ≡ servers_at p (owners tier.splits) (clocks_of (after_pull owned.0)) =
-      ap (λ t. slice_set t.servers s (server_at p owned.0 (version + 1))) is.servers
-      ∙ servers-raised p (owners tier.splits) (clocks_of tier) s owned.0 version owned.1 at ∙ sym (ap (servers_at p (owners tier.splits)) clocks-after) in
+      let all : slice_set tier.servers s (server_at base p owned.0 (version + 1)) ≡ servers_at base p (owners tier.splits) (clocks_of (after_pull owned.0)) =
+      ap (λ t. slice_set t.servers s (server_at base p owned.0 (version + 1))) is.servers
+      ∙ servers-raised base p (owners tier.splits) (clocks_of tier) s owned.0 version owned.1 at ∙ sym (ap (servers_at base p (owners tier.splits)) clocks-after) in
       λ i. record { splits = tier.splits; window = (ap (λ t. t.window) is.servers) i; servers = all i }
 
-  after-is : IsCluster p (after_pull owned.0)
+  after-is : IsCluster base p (after_pull owned.0)
   unfolding after_pull
   after-is = record {
     servers = servers-after;
@@ -148,54 +149,54 @@ module _ (p : PipelineState) (tier new : TierState) (s version : ℕ) (mutations
         All-set (λ clock. p.start + p.forgotten ≤ clock) (clocks_of tier) s (version + 1) is.unpulled (omega (arith, from)));
   }
 
-  pub pulled-cluster : IsCluster p new
-  pulled-cluster = subst (IsCluster p) (sym pulled-new) after-is
+  pub pulled-cluster : IsCluster base p new
+  pulled-cluster = subst (IsCluster base p) (sym pulled-new) after-is
 
-  pub pulled-view : (state : ClusterState) → cluster_of p tier ≡ state → cluster_of p new ≡ pull s state
+  pub pulled-view : (state : ClusterState) → cluster_of base p tier ≡ state → cluster_of base p new ≡ pull s state
   unfolding after_pull
   pulled-view state view =
       let clock : version ≡ slice_index (clocks_of tier) s = sym (get_or_from_slice_get (clocks_of tier) s version 0 at) in
-      ap (cluster_of p) pulled-new
-      ∙ (λ i. record { pipeline = p; splits = tier.splits; pulled = clocks-after i })
-      ∙ (λ i. record { pipeline = p; splits = tier.splits; pulled = slice_set (clocks_of tier) s (clock i + 1) })
+      ap (cluster_of base p) pulled-new
+      ∙ (λ i. record { base = base; pipeline = p; splits = tier.splits; pulled = clocks-after i })
+      ∙ (λ i. record { base = base; pipeline = p; splits = tier.splits; pulled = slice_set (clocks_of tier) s (clock i + 1) })
       ∙ ap (pull s) view
 
 -- what may be pulled
-pub may-there : (p : PipelineState) (tier : TierState) (state : ClusterState) (s version logs : ℕ) → cluster_of p tier ≡ state → slice_get (clocks_of tier) s ≡ Some version →
+pub may-there : (base : Map) (p : PipelineState) (tier : TierState) (state : ClusterState) (s version logs : ℕ) → cluster_of base p tier ≡ state → slice_get (clocks_of tier) s ≡ Some version →
     logs ≡ length p.logged → true ≡ nat_lt version (slice_index p.logged (s % logs)) → may_pull state s ≡ true
-may-there p tier state s version logs view at same may =
+may-there base p tier state s version logs view at same may =
     ap (λ c. may_pull c s) (sym view)
     ∙ ap (λ n. nat_lt n (slice_index p.logged (s % length p.logged))) (get_or_from_slice_get (clocks_of tier) s version 0 at)
     ∙ ap (λ n. nat_lt version (slice_index p.logged (s % n))) (sym same) ∙ sym may
 
 -- the servers at the start
-first-clocks : (config : Config) (os : List Owned) → map (λ (x : ServerState). x.version) (map (λ _. first_server config.start) os) ≡ map (λ _. config.start) os
-first-clocks config [] = refl
-first-clocks config (o ∷ os) = ap (λ ns. config.start ∷ ns) (first-clocks config os)
+first-clocks : (base : Map) (config : Config) (os : List Owned) → map (λ (x : ServerState). x.version) (map (first_server_over base config.start) os) ≡ map (λ _. config.start) os
+first-clocks base config [] = refl
+first-clocks base config (o ∷ os) = ap (λ ns. config.start ∷ ns) (first-clocks base config os)
 
-first-servers : (config : Config) (os : List Owned) →
-    map (λ _. first_server config.start) os ≡ servers_at (first_pipeline config) os (map (λ _. config.start) os)
-first-servers config [] = refl
-first-servers config (o ∷ os) =
+first-servers : (base : Map) (config : Config) (os : List Owned) →
+    map (first_server_over base config.start) os ≡ servers_at base (first_pipeline config) os (map (λ _. config.start) os)
+first-servers base config [] = refl
+first-servers base config (o ∷ os) =
     let none : min config.window (config.start - config.start) ≡ 0 = omega arith in
-    let maps : empty ∷ [] ≡ maps_back (first_pipeline config) o config.start (min config.window (config.start - config.start)) =
-    ap (λ m. m ∷ []) (sym (part-empty o)) ∙ sym (ap (maps_back (first_pipeline config) o config.start) none) in
-    λ i. record { version = config.start; maps = maps i } ∷ first-servers config os i
+    let maps : part o base ∷ [] ≡ maps_back base (first_pipeline config) o config.start (min config.window (config.start - config.start)) =
+    sym (ap (maps_back base (first_pipeline config) o config.start) none) in
+    λ i. record { version = config.start; maps = maps i } ∷ first-servers base config os i
 
 all-same : (P : ℕ → Type 0) (n : ℕ) (os : List Owned) → P n → AllByRecursion P (map (λ _. n) os)
 all-same P n [] h = tt
 all-same P n (o ∷ os) h = (h, all-same P n os h)
 
-pub starts-view : (config : Config) → cluster_of (first_pipeline config) (first_tier config) ≡ first_cluster config
-starts-view config = ap (λ ns. record { pipeline = first_pipeline config; splits = config.storage_splits; pulled = ns }) (first-clocks config (owners config.storage_splits))
+pub starts-view : (base : Map) (config : Config) → cluster_of base (first_pipeline config) (first_tier_over base config) ≡ first_cluster_over base config
+starts-view base config = ap (λ ns. record { base = base; pipeline = first_pipeline config; splits = config.storage_splits; pulled = ns }) (first-clocks base config (owners config.storage_splits))
 
-pub starts-cluster : (config : Config) → config_refusal config ≡ None → IsCluster (first_pipeline config) (first_tier config)
-starts-cluster config allowed =
+pub starts-cluster : (base : Map) (config : Config) → config_refusal config ≡ None → IsCluster base (first_pipeline config) (first_tier_over base config)
+starts-cluster base config allowed =
     let os = owners config.storage_splits in
-    let clocks = first-clocks config os in record {
+    let clocks = first-clocks base config os in record {
       servers =
-          let all : map (λ _. first_server config.start) os ≡ servers_at (first_pipeline config) os (clocks_of (first_tier config)) =
-          first-servers config os ∙ sym (ap (servers_at (first_pipeline config) os) clocks) in
+          let all : map (first_server_over base config.start) os ≡ servers_at base (first_pipeline config) os (clocks_of (first_tier_over base config)) =
+          first-servers base config os ∙ sym (ap (servers_at base (first_pipeline config) os) clocks) in
           λ i. record { splits = config.storage_splits; window = config.window; servers = all i };
       counts = ap length clocks ∙ length-map os (λ _. config.start);
       some_log = subst (λ n. 1 ≤ n) (sym (length-replicate config.logs config.start)) (some_log config allowed);
@@ -205,9 +206,17 @@ starts-cluster config allowed =
       unpulled = subst (AllByRecursion (λ clock. config.start + 0 ≤ clock)) (sym clocks) (all-same (λ clock. config.start + 0 ≤ clock) config.start os (omega arith));
     }
 
+-- over the empty map each has that
+emptied : (config : Config) (os : List Owned) → map (λ _. first_server config.start) os ≡ map (first_server_over empty config.start) os
+emptied config [] = refl
+emptied config (o ∷ os) = λ i. record { version = config.start; maps = sym (part-empty o) i ∷ [] } ∷ emptied config os i
+
+pub starts-empty : (config : Config) → first_tier config ≡ first_tier_over empty config
+starts-empty config = ap (λ (ss : List ServerState). record { splits = config.storage_splits; window = config.window; servers = ss }) (emptied config (owners config.storage_splits))
+
 -- what a server hasn't pulled is kept
-pub unpulled-at : (p : PipelineState) (tier : TierState) (s version : ℕ) → IsCluster p tier → slice_get (clocks_of tier) s ≡ Some version → p.start + p.forgotten ≤ version
-unpulled-at p tier s version is at = All-get (λ clock. p.start + p.forgotten ≤ clock) (clocks_of tier) s version is.unpulled at
+pub unpulled-at : (base : Map) (p : PipelineState) (tier : TierState) (s version : ℕ) → IsCluster base p tier → slice_get (clocks_of tier) s ≡ Some version → p.start + p.forgotten ≤ version
+unpulled-at base p tier s version is at = All-get (λ clock. p.start + p.forgotten ≤ clock) (clocks_of tier) s version is.unpulled at
 
 -- how many requests are done with: no more than this, and no more than each server has pulled
 done-least : (start done : ℕ) (clocks : List ℕ) → done_with_by start done clocks ≤ done
@@ -227,15 +236,15 @@ done-each start done n (clock ∷ clocks) upto from =
     let one : start ≤ clock = from.0 in
     (omega (arith, one, upto), done-each start done n clocks (omega (arith, upto)) from.1)
 
-pub done-from : (p : PipelineState) (tier : TierState) (done : ℕ) → IsCluster p tier → p.forgotten ≤ done → p.forgotten ≤ done_with_by p.start done (clocks_of tier)
-done-from p tier done is upto = done-more p.start done p.forgotten (clocks_of tier) upto is.unpulled
+pub done-from : (base : Map) (p : PipelineState) (tier : TierState) (done : ℕ) → IsCluster base p tier → p.forgotten ≤ done → p.forgotten ≤ done_with_by p.start done (clocks_of tier)
+done-from base p tier done is upto = done-more p.start done p.forgotten (clocks_of tier) upto is.unpulled
 
 pub done-upto : (p : PipelineState) (tier : TierState) (done : ℕ) → done_with_by p.start done (clocks_of tier) ≤ done
 done-upto p tier done = done-least p.start done (clocks_of tier)
 
-pub forgot-cluster : (p : PipelineState) (tier : TierState) (done : ℕ) → IsCluster p tier →
-    IsCluster (record p { forgotten = done_with_by p.start done (clocks_of tier) }) tier
-forgot-cluster p tier done is =
+pub forgot-cluster : (base : Map) (p : PipelineState) (tier : TierState) (done : ℕ) → IsCluster base p tier →
+    IsCluster base (record p { forgotten = done_with_by p.start done (clocks_of tier) }) tier
+forgot-cluster base p tier done is =
     let n = done_with_by p.start done (clocks_of tier) in
     record {
       servers = is.servers;

@@ -5,8 +5,9 @@ use Rattle.std.proofs.lemmas.List.Elements.{filter-append}
 use Rattle.std.specs.List.{AllByRecursion, filter}
 use Rattle.std.specs.Option.{option_or}
 use Rattle.kv_core.specs.declared.change.CommitRequest.{CommitRequest}
-use Rattle.cluster_core.specs.History.{Entry, until, replay, map_at}
+use Rattle.cluster_core.specs.History.{Entry, until, replay, map_over}
 use Rattle.std.specs.FinMap.{empty}
+use Rattle.kv_core.specs.Map.{Map}
 use Rattle.cluster_core.specs.Decision.{Owned, owners, agreed_above, first_disturbed, first_cause, cause, is_committed, committed, numbered}
 use Rattle.cluster_core.specs.Laws.{LaterChangesNothing, HistoryGrows, MapsStay}
 use Rattle.cluster_core.proofs.Causes.{cause_decides}
@@ -72,8 +73,13 @@ until-maybe : (v : ℕ) (es : List Entry) (e : Entry) (b : Bool) → v < e.versi
 until-maybe v es e true h = until-push v es e h
 until-maybe v es e false h = ap (until v) (nothing_more es)
 
-pub maps_stay : MapsStay
-maps_stay splits last requests request version h =
-    ap (λ es. map_at es version) (history_grows splits last requests request)
-    ∙ ap (replay empty) (until-maybe version (committed splits (numbered last requests)) (entry_of (last + length requests + 1) request)
+-- so it is over every base
+pub maps_stay_over : (base : Map) (splits : List (List ℕ)) (last : ℕ) (requests : List CommitRequest) (request : CommitRequest) (version : ℕ) → version ≤ last + length requests →
+    map_over base (committed splits (numbered last (requests ++ request ∷ []))) version ≡ map_over base (committed splits (numbered last requests)) version
+maps_stay_over base splits last requests request version h =
+    ap (λ es. map_over base es version) (history_grows splits last requests request)
+    ∙ ap (replay base) (until-maybe version (committed splits (numbered last requests)) (entry_of (last + length requests + 1) request)
     (is_none (cause splits (numbered last requests) (entry_of (last + length requests + 1) request))) (omega (arith, h)))
+
+pub maps_stay : MapsStay
+maps_stay splits last requests request version h = maps_stay_over empty splits last requests request version h

@@ -18,6 +18,7 @@ pub mod Clocks
 pub mod Standing
 pub mod Configured
 pub mod OwnMaps
+pub mod OverBase
 pub mod JoinedPairs
 pub mod TierReads
 pub mod OwnerReads

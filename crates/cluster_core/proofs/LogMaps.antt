@@ -4,9 +4,9 @@ use Rattle.std.proofs.lemmas.Bool.{le-leb}
 use Rattle.std.proofs.lemmas.List.Elements.{filter-append}
 use Rattle.std.specs.List.{AllByRecursion, filter}
 use Rattle.std.specs.FinMap.{empty}
-use Rattle.kv_core.specs.Map.{after_all}
+use Rattle.kv_core.specs.Map.{Map, after_all}
 use Rattle.kv_core.specs.declared.change.CommitRequest.{CommitRequest}
-use Rattle.cluster_core.specs.History.{Entry, until, replay, map_at}
+use Rattle.cluster_core.specs.History.{Entry, until, replay, map_at, map_over}
 use Rattle.cluster_core.specs.Decision.{numbered, is_committed, committed, logged, log}
 use Rattle.cluster_core.specs.Tier.{Makes}
 use Rattle.cluster_core.specs.Configuration.{TierHasDatabase}
@@ -38,19 +38,19 @@ until-both : (v : ℕ) (xs ys : List Entry) → AllByRecursion (λ e. e.version 
 until-both v xs ys a b =
     filter-append (λ e. Rattle.std.proofs.Common.nat_le e.version v) xs ys ∙ (λ i. until-all v xs a i ++ until-none v v ys (omega arith) b i) ∙ nothing_more xs
 
-module _ (p : Entry → Bool) where
+module _ (base : Map) (p : Entry → Bool) where
   makes_from : (done : List Entry) (n : ℕ) (qs : List CommitRequest) → AllByRecursion (λ e. e.version ≤ n) done →
-      Makes (map_at (done ++ filter p (numbered n qs))) n (map (logged p) (numbered n qs))
+      Makes (map_over base (done ++ filter p (numbered n qs))) n (map (logged p) (numbered n qs))
   makes_from done n [] a = tt
   makes_from done n (q ∷ qs) a =
-      elim (p e) as (λ b. Makes (map_at (done ++ cond b (e ∷ later) later)) n (cond b e.request.mutations [] ∷ map (logged p) (numbered (n + 1) qs))) [
+      elim (p e) as (λ b. Makes (map_over base (done ++ cond b (e ∷ later) later)) n (cond b e.request.mutations [] ∷ map (logged p) (numbered (n + 1) qs))) [
         | true ↦ (
           with_e,
-          subst (λ h. Makes (map_at h) (n + 1) (map (logged p) (numbered (n + 1) qs))) (append_assoc done (e ∷ []) later)
+          subst (λ h. Makes (map_over base h) (n + 1) (map (logged p) (numbered (n + 1) qs))) (append_assoc done (e ∷ []) later)
               (makes_from (done ++ e ∷ []) (n + 1) qs (push-all (n + 1) e done (raise n (n + 1) done (omega arith) a) (omega arith))),
         )
         | false ↦ (
-          ap (replay empty) (until-both (n + 1) done later (raise n (n + 1) done (omega arith) a) over ∙ sym (until-both n done later a (lower later over))),
+          ap (replay base) (until-both (n + 1) done later (raise n (n + 1) done (omega arith) a) over ∙ sym (until-both n done later a (lower later over))),
           makes_from done (n + 1) qs (raise n (n + 1) done (omega arith) a),
         )
       ]
@@ -68,27 +68,27 @@ module _ (p : Entry → Bool) where
       lower [] a = tt
       lower (x ∷ es) a = let one : n + 1 < x.version = a.0 in (omega (arith, one), lower es a.1)
 
-      with_e : map_at (done ++ e ∷ later) (n + 1) ≡ after_all q.mutations (map_at (done ++ e ∷ later) n)
+      with_e : map_over base (done ++ e ∷ later) (n + 1) ≡ after_all q.mutations (map_over base (done ++ e ∷ later) n)
       with_e =
           let now : until (n + 1) (done ++ e ∷ later) ≡ done ++ e ∷ [] =
           ap (until (n + 1)) (sym (append_assoc done (e ∷ []) later)) ∙ until-both (n + 1) (done ++ e ∷ []) later (push-all (n + 1) e done (raise n (n + 1) done (omega arith) a) (omega arith)) over in
           let before : until n (done ++ e ∷ later) ≡ done = until-both n done (e ∷ later) a (omega arith, lower later over) in
-          ap (replay empty) now ∙ fold-push (λ m entry. after_all entry.request.mutations m) empty done e ∙ ap (λ xs. after_all q.mutations (replay empty xs)) (sym before)
+          ap (replay base) now ∙ fold-push (λ m entry. after_all entry.request.mutations m) base done e ∙ ap (λ xs. after_all q.mutations (replay base xs)) (sym before)
 
 -- the log of the committed requests makes the maps of their history
-pub log_makes_history : (splits : List (List ℕ)) (start : ℕ) (requests : List CommitRequest) →
-    Makes (map_at (committed splits (numbered start requests))) start (log splits (numbered start requests))
-log_makes_history splits start requests = makes_from (is_committed splits (numbered start requests)) [] start requests tt
+pub log_makes_history : (base : Map) (splits : List (List ℕ)) (start : ℕ) (requests : List CommitRequest) →
+    Makes (map_over base (committed splits (numbered start requests))) start (log splits (numbered start requests))
+log_makes_history base splits start requests = makes_from base (is_committed splits (numbered start requests)) [] start requests tt
 
--- up to the first version there is nothing
-pub empty_before : (splits : List (List ℕ)) (start : ℕ) (requests : List CommitRequest) (version : ℕ) → version ≤ start →
-    map_at (committed splits (numbered start requests)) version ≡ empty
-empty_before splits start requests version below =
-    ap (replay empty) (until-none version start (committed splits (numbered start requests)) below
+-- up to the first version there is the base
+pub base_before : (base : Map) (splits : List (List ℕ)) (start : ℕ) (requests : List CommitRequest) (version : ℕ) → version ≤ start →
+    map_over base (committed splits (numbered start requests)) version ≡ base
+base_before base splits start requests version below =
+    ap (replay base) (until-none version start (committed splits (numbered start requests)) below
     (above-filter (is_committed splits (numbered start requests)) start (numbered start requests) (above-numbered start start requests (omega arith))))
 
 pub begins_empty : (splits : List (List ℕ)) (start : ℕ) (requests : List CommitRequest) → map_at (committed splits (numbered start requests)) start ≡ empty
-begins_empty splits start requests = empty_before splits start requests start (omega arith)
+begins_empty splits start requests = base_before empty splits start requests start (omega arith)
 
 long : (splits : List (List ℕ)) (all : List Entry) (last : ℕ) (qs : List CommitRequest) → length (map (logged (is_committed splits all)) (numbered last qs)) ≡ length qs
 long splits all last [] = refl
@@ -99,5 +99,5 @@ tier_has_database config requests version from upto near =
     let entries = numbered config.start requests in
     let same : length (log config.resolver_splits entries) ≡ length requests = long config.resolver_splits entries config.start requests in
     tier_follows_log config (log config.resolver_splits entries) (map_at (committed config.resolver_splits entries))
-    (begins_empty config.resolver_splits config.start requests) (log_makes_history config.resolver_splits config.start requests)
+    (begins_empty config.resolver_splits config.start requests) (log_makes_history empty config.resolver_splits config.start requests)
     version from (omega (arith, same, upto)) (omega (arith, same, near))

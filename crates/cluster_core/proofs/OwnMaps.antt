@@ -1,5 +1,5 @@
 -- What the mutations that concern a part make of the part's map.
-use Rattle.std.proofs.Common.{All, arith, ◌≡◌, ℕ, zero, suc, Bool, true, false, cond, ◌&&◌, Option, None, Some, unwrap_or, List, [], ◌∷◌, take, inl, inr, refl, sym, ap, subst, ◌∙◌}
+use Rattle.std.proofs.Common.{All, arith, fold, ◌≡◌, ℕ, zero, suc, Bool, true, false, cond, ◌&&◌, Option, None, Some, unwrap_or, List, [], ◌∷◌, take, inl, inr, refl, sym, ap, subst, ◌∙◌}
 use Rattle.std.proofs.lemmas.Bool.{true≢false, cases_Bool, false_from_ne_true}
 use Rattle.std.specs.List.{AllByRecursion, slice_get}
 use Rattle.std.specs.FinMap.{empty, get, insert}
@@ -15,7 +15,7 @@ use Rattle.kv_core.proofs.Changes.{get-after, get-compared, get-kept, get-set, s
 use Rattle.kv_core.proofs.Order.{contains-point, tied_keys}
 use Rattle.cluster_core.specs.Cuts.{has_keys-own}
 use Rattle.cluster_core.specs.Decision.{Owned, cut, owns}
-use Rattle.cluster_core.specs.Tier.{part}
+use Rattle.cluster_core.specs.Tier.{oldest, part}
 use Rattle.cluster_core.proofs.Ownership.{meets_within-from, meets_within-point}
 use Rattle.cluster_core.proofs.StorageMaps.{part-after_all, part-empty}
 
@@ -77,12 +77,21 @@ pub part-skipped : (owner : Owned) (c : Mutation) (cs : List Mutation) (m : Map)
 part-skipped owner c cs m kept h =
     ap (λ x. part owner (after_all cs x)) (sym (skipped-own owner c m kept h)) ∙ part-after_all owner cs (after c m)
 
--- maps of a part's keys, and the empty map past their end, are of its keys
+-- maps of a part's keys, and the oldest of them past their end, are of its keys
+own_oldest : (owner : Owned) (ms : List Map) (first : Map) → part owner first ≡ first → AllByRecursion (λ m. part owner m ≡ m) ms →
+    part owner (fold (λ (before m : Map). m) first ms) ≡ fold (λ (before m : Map). m) first ms
+own_oldest owner [] first own all = own
+own_oldest owner (m ∷ ms) first own all = own_oldest owner ms m all.0 all.1
+
+own_or : (owner : Owned) (ms : List Map) (back : ℕ) (other : Map) → part owner other ≡ other → AllByRecursion (λ m. part owner m ≡ m) ms →
+    part owner (unwrap_or (slice_get ms back) other) ≡ unwrap_or (slice_get ms back) other
+own_or owner [] back other own all = own
+own_or owner (m ∷ ms) zero other own all = all.0
+own_or owner (m ∷ ms) (suc back) other own all = own_or owner ms back other own all.1
+
 pub own-map_of : (owner : Owned) (ms : List Map) (back : ℕ) → AllByRecursion (λ m. part owner m ≡ m) ms →
-    part owner (unwrap_or (slice_get ms back) empty) ≡ unwrap_or (slice_get ms back) empty
-own-map_of owner [] back all = part-empty owner
-own-map_of owner (m ∷ ms) zero all = all.0
-own-map_of owner (m ∷ ms) (suc back) all = own-map_of owner ms back all.1
+    part owner (unwrap_or (slice_get ms back) (oldest ms)) ≡ unwrap_or (slice_get ms back) (oldest ms)
+own-map_of owner ms back all = own_or owner ms back (oldest ms) (own_oldest owner ms empty (part-empty owner) all) all
 
 pub own-take : (owner : Owned) (ms : List Map) (n : ℕ) → AllByRecursion (λ m. part owner m ≡ m) ms → AllByRecursion (λ m. part owner m ≡ m) (take n ms)
 own-take owner ms zero all = tt

@@ -35,11 +35,12 @@ same-log : (p q : PipelineState) (s : ℕ) → p ≡ q → slice_index p.logged 
 same-log p q s same = ap (λ r. slice_index r.logged (s % length r.logged)) same
 
 pub none-pulled : (c : ClusterState) → HasPulled c c
-none-pulled c = record { pipeline = refl; splits = refl; count = refl; on = λ s. omega arith; within = λ s. le-max_left _ _ }
+none-pulled c = record { base = refl; pipeline = refl; splits = refl; count = refl; on = λ s. omega arith; within = λ s. le-max_left _ _ }
 
 pub more-pulled : (old mid new : ClusterState) → HasPulled old mid → HasPulled mid new → HasPulled old new
 more-pulled old mid new first then =
     record {
+      base = then.base ∙ first.base;
       pipeline = then.pipeline ∙ first.pipeline;
       splits = then.splits ∙ first.splits;
       count = then.count ∙ first.count;
@@ -58,6 +59,7 @@ step-pulled old new s NothingToDo did = subst (HasPulled old) (sym did.1) (none-
 step-pulled old new s Done did =
     subst (HasPulled old) (sym did.1)
     (record {
+      base = refl;
       pipeline = refl;
       splits = refl;
       count = length-set old.pulled s (slice_index old.pulled s + 1);

@@ -1,8 +1,10 @@
 -- The maps of a server from its last version down.
-use Rattle.std.proofs.Common.{arith, ◌≡◌, ℕ, zero, suc, ◌-◌, ◌<◌, ◌≤◌, min, None, Some, [], ◌∷◌, take, refl, sym, ap, ◌∙◌}
+use Rattle.std.proofs.Common.{arith, fold, ◌≡◌, ℕ, zero, suc, ◌-◌, ◌<◌, ◌≤◌, min, None, Some, [], ◌∷◌, take, refl, sym, ap, ◌∙◌}
+use Rattle.std.specs.FinMap.{empty}
 use Rattle.std.specs.List.{slice_get}
 use Rattle.kv_core.specs.Map.{Map}
 use Rattle.cluster_core.specs.Server.{maps_down}
+use Rattle.cluster_core.specs.Tier.{oldest}
 
 -- fewer maps are the first of more
 pub take_down : (at : ℕ → Map) (version n count : ℕ) → take (suc n) (maps_down at version count) ≡ maps_down at version (min n count)
@@ -39,3 +41,11 @@ down_past at version (suc count) (suc back) h = down_past at (version - 1) count
 pub down_first : (at : ℕ → Map) (version count : ℕ) → slice_get (maps_down at version count) 0 ≡ Some (at version)
 down_first at version zero = refl
 down_first at version (suc count) = refl
+
+-- the oldest of them
+last_down : (at : ℕ → Map) (version count : ℕ) (first : Map) → fold (λ (before m : Map). m) first (maps_down at version count) ≡ at (version - count)
+last_down at version zero first = let n : version ≡ version - 0 = omega arith in ap at n
+last_down at version (suc count) first = let n : (version - 1) - count ≡ version - suc count = omega arith in last_down at (version - 1) count (at version) ∙ ap at n
+
+pub oldest_down : (at : ℕ → Map) (version count : ℕ) → oldest (maps_down at version count) ≡ at (version - count)
+oldest_down at version count = last_down at version count empty

@@ -1,18 +1,19 @@
 -- A server from step to step: it writes the next version, takes it back, makes it its last one, and drops what is past.
 use Rattle.std.proofs.Common.{arith, add-one, ◌≡◌, ℕ, suc, ◌+◌, ◌-◌, ◌<◌, ◌≤◌, min, cond, unwrap_or, List, [], ◌∷◌, ◌++◌, length, map, take, inl, inr, sym, ap, subst, ◌∙◌}
-use Rattle.std.proofs.lemmas.Bool.{cases_Bool}
+use Rattle.std.proofs.lemmas.Bool.{cases_Bool, cases_lt}
 use Rattle.std.proofs.lemmas.List.{length-map, length_push}
 use Rattle.std.specs.FinMap.{empty}
 use Rattle.std.specs.List.{AllByRecursion, slice_get}
 use Rattle.kv_core.specs.Bytes.{has_key}
+use Rattle.kv_core.specs.Map.{Map}
 use Rattle.cluster_core.specs.declared.server.Server.{Server}
 use Rattle.cluster_core.specs.Chains.{AreBelow, AreFalling, Falls, Writes, links_at, needed, shown, value_at, without}
 use Rattle.cluster_core.specs.Server.{HasOwnKeys, IsAtRest, IsChain, IsServer, IsStaged, maps_down, next_map, recent_of, server_state}
-use Rattle.cluster_core.specs.Tier.{map_of, part}
+use Rattle.cluster_core.specs.Tier.{map_of, oldest, part}
 use Rattle.cluster_core.proofs.Links.{falling_from_falls}
 use Rattle.cluster_core.proofs.OwnMaps.{own-map_of, own-take}
 use Rattle.cluster_core.proofs.ServerChains.{pushed_chain, short_chain, trimmed_chain, unlisted_chain, value-needed, value-next, value-without}
-use Rattle.cluster_core.proofs.ServerMaps.{down_at, down_first, down_past, same_down, take_down}
+use Rattle.cluster_core.proofs.ServerMaps.{down_at, down_first, down_past, oldest_down, same_down, take_down}
 use Rattle.cluster_core.proofs.Shown.{same_shown}
 use Rattle.cluster_core.proofs.Written.{without_again}
 
@@ -42,8 +43,8 @@ rest_falling server rest key = falling_from_falls (server.version + 1) (links_at
 newest_map : (server : Server) → map_of (server_state server) server.version ≡ shown server.chains.chains.entries server.version
 newest_map server =
     let none : server.version - server.version ≡ 0 = omega arith in
-    ap (λ n. unwrap_or (slice_get (server_state server).maps n) empty) none
-    ∙ ap (λ o. unwrap_or o empty) (down_first (shown server.chains.chains.entries) server.version (length server.recent.items))
+    ap (λ n. unwrap_or (slice_get (server_state server).maps n) (oldest (server_state server).maps)) none
+    ∙ ap (λ o. unwrap_or o (oldest (server_state server).maps)) (down_first (shown server.chains.chains.entries) server.version (length server.recent.items))
 
 pub rest_next : (server : Server) → IsAtRest server → next_map server ≡ map_of (server_state server) server.version
 rest_next server rest =
@@ -184,12 +185,21 @@ module _ (old new : Server) (keys : List (List ℕ)) (window : ℕ) (owner : new
   pub trimmed_kept : IsServer window new
   trimmed_kept = within_kept new window trimmed_rest (omega (arith, depth))
 
--- what is read of a version that the server still has, and of one before those
-pub had_map : (server : Server) (v : ℕ) → server.version - v ≤ length server.recent.items → map_of (server_state server) v ≡ shown server.chains.chains.entries (server.version - (server.version - v))
-had_map server v has = ap (λ o. unwrap_or o empty) (down_at (shown server.chains.chains.entries) server.version (length server.recent.items) (server.version - v) has)
-
-pub past_map : (server : Server) (v : ℕ) → length server.recent.items < server.version - v → map_of (server_state server) v ≡ empty
-past_map server v past = ap (λ o. unwrap_or o empty) (down_past (shown server.chains.chains.entries) server.version (length server.recent.items) (server.version - v) past)
+-- what is read of a version: what the chains show then, or at the oldest version that the server still has
+pub read_map : (server : Server) (v : ℕ) → map_of (server_state server) v ≡ shown server.chains.chains.entries (server.version - min (server.version - v) (length server.recent.items))
+read_map server v =
+    elim (cases_lt (length server.recent.items) (server.version - v)) [
+      | inl past ↦
+          let n : length server.recent.items ≡ min (server.version - v) (length server.recent.items) = omega (arith, past) in
+          ap (λ o. unwrap_or o (oldest (server_state server).maps)) (down_past at server.version (length server.recent.items) (server.version - v) past)
+          ∙ oldest_down at server.version (length server.recent.items) ∙ ap (λ n. at (server.version - n)) n
+      | inr has ↦
+          let n : server.version - v ≡ min (server.version - v) (length server.recent.items) = omega (arith, has) in
+          ap (λ o. unwrap_or o (oldest (server_state server).maps)) (down_at at server.version (length server.recent.items) (server.version - v) has) ∙ ap (λ n. at (server.version - n)) n
+    ]
+  where
+    at : ℕ → Map
+    at = shown server.chains.chains.entries
 
 -- a server that goes back as far as one within the window did
 pub still_kept : (old new : Server) (window : ℕ) → IsServer window old → length new.recent.items ≡ length old.recent.items → IsAtRest new → IsServer window new

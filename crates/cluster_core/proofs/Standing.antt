@@ -8,7 +8,8 @@ use Rattle.std.proofs.lemmas.Option.{get_or_from_slice_get, slice_get-map, slice
 use Rattle.std.specs.List.{AllByRecursion, All, slice_get, list_all}
 use Rattle.std.specs.Option.{option_map, option_or, option_map_or, unwrap_or}
 use Rattle.kv_core.specs.declared.change.CommitRequest.{CommitRequest}
-use Rattle.cluster_core.specs.History.{Entry, IsLegal}
+use Rattle.cluster_core.specs.History.{Entry, IsLegalOver}
+use Rattle.kv_core.specs.Map.{Map}
 use Rattle.cluster_core.specs.Decision.{Owned, owners, owners_from, agrees, newer_agreed, first_cause, cause, is_committed, committed, numbered, logged, log}
 use Rattle.cluster_core.specs.Laws.{ReadsBelow}
 use Rattle.cluster_core.specs.Progress.{ResolverState, IsResolver, IsLog, IsPipeline, answer_of, fresh, has_agreed}
@@ -19,7 +20,7 @@ use Rattle.cluster_core.specs.Kept.{ReadsWithin}
 use Rattle.cluster_core.proofs.Bridge.{entry_here, entry_of, numbered_at, version_at}
 use Rattle.cluster_core.proofs.Causes.{agrees-none}
 use Rattle.cluster_core.proofs.Growth.{numbered-push}
-use Rattle.cluster_core.proofs.Legality.{committed_is_legal}
+use Rattle.cluster_core.proofs.Legality.{committed_is_legal_over}
 use Rattle.cluster_core.proofs.Versions.{rising-numbered}
 use Rattle.cluster_core.proofs.Forgetting.{length_forgets}
 use Rattle.cluster_core.proofs.Keeping.{log_appended, log_forgotten, log_submitted, resolver_submitted, resolver_taken}
@@ -57,9 +58,9 @@ module _ (splits : List (List ℕ)) (window start : ℕ) (requests : RequestList
       let some = some_owner [] splits in
       omega (arith, len, some)
 
-  -- what is committed of the requests is a legal history
-  pub legal : IsLegal (committed splits (numbered start requests.all))
-  legal = committed_is_legal splits es (rising-numbered start requests.all) was.reads
+  -- what is committed of the requests is a legal history, over every base
+  pub legal : (base : Map) → IsLegalOver base (committed splits (numbered start requests.all))
+  legal base = committed_is_legal_over base splits es (rising-numbered start requests.all) was.reads
 
   -- after one more request
   pub stands_submitted : (q : CommitRequest) → start + length requests.all + 1 < 2 ^ 64 → q.read_version ≤ start + length requests.all → start + length requests.all ≤ q.read_version + window →

@@ -11,7 +11,7 @@ use Rattle.kv_core.specs.Map.{Map, after_all, value_after_all}
 use Rattle.kv_core.specs.declared.change.Mutation.{Mutation}
 use Rattle.kv_core.proofs.Changes.{get-kept, same_maps, get-after_all-value}
 use Rattle.cluster_core.specs.Decision.{Owned, owners, owns}
-use Rattle.cluster_core.specs.Tier.{ServerState, TierState, part, map_of, absorb, absorb_each, whole_map, after_log, Makes}
+use Rattle.cluster_core.specs.Tier.{ServerState, TierState, oldest, part, map_of, absorb, absorb_each, whole_map, after_log, Makes}
 use Rattle.cluster_core.specs.Configuration.{first_tier, TierFollowsLog}
 use Rattle.cluster_core.proofs.Ownership.{some_owner}
 
@@ -61,7 +61,10 @@ module _ (window start : ℕ) (maps : ℕ → Map) where
   -- a server stands at this version, with its part of each map as far back as the window
   record Follows (owner : Owned) (server : ServerState) (now : ℕ) : Type 0 where
     at : server.version ≡ now
-    has : (v : ℕ) → start ≤ v → v ≤ now → now - v ≤ window → map_of server v ≡ part owner (maps v)
+    there : (v : ℕ) → start ≤ v → v ≤ now → now - v ≤ window → slice_get server.maps (server.version - v) ≡ Some (part owner (maps v))
+
+  has : (owner : Owned) (server : ServerState) (now : ℕ) → Follows owner server now → (v : ℕ) → start ≤ v → v ≤ now → now - v ≤ window → map_of server v ≡ part owner (maps v)
+  has owner server now f v from upto near = ap (λ o. unwrap_or o (oldest server.maps)) (f.there v from upto near)
 
   abbrev AllFollow : List Owned → List ServerState → ℕ → Type 0
   AllFollow [] [] now = Unit {0}
@@ -73,7 +76,7 @@ module _ (window start : ℕ) (maps : ℕ → Map) where
       Follows owner server now → Follows owner (absorb window owner cs server) (now + 1)
   follows-absorb owner server now cs le makes f = record {
     at = ap (λ n. n + 1) f.at;
-    has = λ v from upto near. elim (cases_eq v (now + 1)) [
+    there = λ v from upto near. elim (cases_eq v (now + 1)) [
       | inl newest ↦ first v newest
       | inr older ↦ later v from (omega (arith, upto, older)) (omega (arith, near))
     ];
@@ -81,27 +84,27 @@ module _ (window start : ℕ) (maps : ℕ → Map) where
     where
       fresh_is : part owner (after_all cs (map_of server server.version)) ≡ part owner (maps (now + 1))
       fresh_is =
-          let here : map_of server server.version ≡ part owner (maps now) = ap (map_of server) f.at ∙ f.has now le (omega arith) (omega arith) in
+          let here : map_of server server.version ≡ part owner (maps now) = ap (map_of server) f.at ∙ has owner server now f now le (omega arith) (omega arith) in
           ap (λ m. part owner (after_all cs m)) here ∙ part-after_all owner cs (maps now) ∙ ap (part owner) (sym makes)
 
       front : take (window + 1) (part owner (after_all cs (map_of server server.version)) ∷ server.maps) ≡ part owner (after_all cs (map_of server server.version)) ∷ take window server.maps
       front = ap (λ n. take n (part owner (after_all cs (map_of server server.version)) ∷ server.maps)) (add-one window)
 
-      first : (v : ℕ) → v ≡ now + 1 → map_of (absorb window owner cs server) v ≡ part owner (maps v)
+      first : (v : ℕ) → v ≡ now + 1 → slice_get (absorb window owner cs server).maps ((server.version + 1) - v) ≡ Some (part owner (maps v))
       first v newest =
           let none : (server.version + 1) - v ≡ 0 = omega (arith, f.at, newest) in
-          ap (λ xs. unwrap_or (slice_get xs ((server.version + 1) - v)) empty) front
-          ∙ ap (λ n. unwrap_or (slice_get (part owner (after_all cs (map_of server server.version)) ∷ take window server.maps) n) empty) none
-          ∙ fresh_is ∙ ap (λ n. part owner (maps n)) (sym newest)
+          ap (λ xs. slice_get xs ((server.version + 1) - v)) front
+          ∙ ap (slice_get (part owner (after_all cs (map_of server server.version)) ∷ take window server.maps)) none
+          ∙ ap Some (fresh_is ∙ ap (λ n. part owner (maps n)) (sym newest))
 
-      later : (v : ℕ) → start ≤ v → v ≤ now → (now + 1) - v ≤ window → map_of (absorb window owner cs server) v ≡ part owner (maps v)
+      later : (v : ℕ) → start ≤ v → v ≤ now → (now + 1) - v ≤ window → slice_get (absorb window owner cs server).maps ((server.version + 1) - v) ≡ Some (part owner (maps v))
       later v from upto near =
           let back : (server.version + 1) - v ≡ suc (server.version - v) = omega (arith, f.at, upto) in
           let close : server.version - v < window = omega (arith, f.at, upto, near) in
-          ap (λ xs. unwrap_or (slice_get xs ((server.version + 1) - v)) empty) front
-          ∙ ap (λ n. unwrap_or (slice_get (part owner (after_all cs (map_of server server.version)) ∷ take window server.maps) n) empty) back
-          ∙ ap (λ o. unwrap_or o empty) (slice_get-take window (server.version - v) server.maps close)
-          ∙ f.has v from upto (omega (arith, near))
+          ap (λ xs. slice_get xs ((server.version + 1) - v)) front
+          ∙ ap (slice_get (part owner (after_all cs (map_of server server.version)) ∷ take window server.maps)) back
+          ∙ slice_get-take window (server.version - v) server.maps close
+          ∙ f.there v from upto (omega (arith, near))
 
   follow-absorb : (os : List Owned) (ss : List ServerState) (now : ℕ) (cs : List Mutation) → start ≤ now → maps (now + 1) ≡ after_all cs (maps now) →
       AllFollow os ss now → AllFollow os (absorb_each window cs os ss) (now + 1)
@@ -115,10 +118,10 @@ module _ (window start : ℕ) (maps : ℕ → Map) where
   follow-first (o ∷ os) e = (
     record {
       at = refl;
-      has = λ v from upto near.
+      there = λ v from upto near.
           let same : start - v ≡ 0 = omega (arith, from, upto) in
           let there : v ≡ start = omega (arith, from, upto) in
-          ap (λ n. unwrap_or (slice_get (empty ∷ []) n) empty) same ∙ sym (part-empty o) ∙ ap (part o) (sym e) ∙ ap (λ n. part o (maps n)) (sym there);
+          ap (slice_get (empty ∷ [])) same ∙ ap Some (sym (part-empty o) ∙ ap (part o) (sym e) ∙ ap (λ n. part o (maps n)) (sym there));
     },
     follow-first os e,
   )
@@ -132,7 +135,7 @@ module _ (window start : ℕ) (maps : ℕ → Map) where
   find-whole (o ∷ os) (s ∷ ss) now v q from upto near a =
       find-append q (entries (map_of s v)) (flat_map (λ s. entries (map_of s v)) ss)
       ∙ (λ i. option_or (
-      (sym (get-entries (map_of s v) q) ∙ ap (λ m. get m q) (a.0.has v from upto near) ∙ get-kept (maps v) (owns o) q) i)
+      (sym (get-entries (map_of s v) q) ∙ ap (λ m. get m q) (has o s now a.0 v from upto near) ∙ get-kept (maps v) (owns o) q) i)
       (find-whole os ss now v q from upto near a.1 i))
       ∙ either (owns o q) (list_any (λ o. owns o q) os) (get (maps v) q)
 

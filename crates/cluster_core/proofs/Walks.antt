@@ -1,10 +1,12 @@
--- A step that the walks of `src/past.rt` share. Assumes `Logic`.
-use Rattle.std.proofs.Common.{List, [], ◌∷◌, refl}
+-- What the walks of `src/past.rt` and `src/base.rt` share. Assumes `Logic`.
+use Rattle.std.proofs.Common.{ℕ, zero, suc, List, [], ◌∷◌, refl}
 use seplogic.Ra.Ura.{Ura}
 use mir.Val.{Val, vstruct, vnil}
 use types.Logic.{Logic}
 use types.Kit.{Goal, Step, step, Item, ‵, ◌$◌, fjoin, fpack, feq_i}
+use denote.Builtin.{unit}
 use denote.RattleType.{RattleType, Valss}
+use denote.Signature.{Slot, plain}
 use denote.Steps.{nothing}
 use denote.Struct.Struct.{Struct, within}
 
@@ -18,3 +20,8 @@ pub none_made : {M : Type 1} {𝓤 : Ura M} {𝓛 : Logic 𝓤} {K : Type 0} {Γ
 none_made t = step (λ s.
     nothing t $ feq_i t (List Val) (none ∷ []) (none ∷ []) refl $ fjoin t $
     fpack t (Valss []) (within (record { name = []; args = []; types = []; fields = [] }) tt (none ∷ [])) tt $ s)
+
+abbrev pub slot_at : {n : ℕ} → ℕ → List (Slot n) → Slot n
+slot_at k [] = plain (λ _. unit)
+slot_at zero (s ∷ ss) = s
+slot_at (suc k) (s ∷ ss) = slot_at k ss

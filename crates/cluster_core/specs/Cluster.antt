@@ -1,42 +1,52 @@
 -- The whole cluster: the pipeline, and how far each server has pulled what the logs have.
 use Rattle.std.specs.Prelude.{◌≡◌, ℕ, zero, suc, ◌-◌, ◌%◌, ◌<◌, ◌≤◌, All, Bool, true, false}
 use Rattle.std.specs.Prelude.{nat_lt, max, min, List, [], ◌∷◌, length, slice_index}
+use Rattle.std.specs.FinMap.{empty}
 use Rattle.kv_core.specs.Map.{Map}
 use Rattle.cluster_core.specs.declared.answers.Work.{Work}
 use Rattle.cluster_core.specs.declared.answers.Work.TheVariants.{Done, NothingToDo}
-use Rattle.cluster_core.specs.History.{map_at}
+use Rattle.cluster_core.specs.History.{map_over}
 use Rattle.cluster_core.specs.Decision.{Owned, owners}
 use Rattle.cluster_core.specs.Roles.{HasSameRoles, PipelineState, done_with, history, raised}
 use Rattle.cluster_core.specs.Tier.{ServerState, TierState, part}
 
--- the pipeline, the splits between the servers, and the clock of each server
+-- the map that stood before the first request, the pipeline, the splits between the servers, and the clock of each
+-- server
 pub record ClusterState : Type 0 where
+  pub base : Map
   pub pipeline : PipelineState
   pub splits : List (List ℕ)
   pub pulled : List ℕ
 
 -- the map of the whole database at a version
 abbrev pub database_at : ClusterState → ℕ → Map
-database_at c version = map_at (history c.pipeline) version
+database_at c version = map_over c.base (history c.pipeline) version
 
 -- the maps of an owner's keys from this version down, one more than this number of them
-abbrev pub maps_back : PipelineState → Owned → ℕ → ℕ → List Map
-maps_back p owner version zero = part owner (map_at (history p) version) ∷ []
-maps_back p owner version (suc count) = part owner (map_at (history p) version) ∷ maps_back p owner (version - 1) count
+abbrev pub maps_back : Map → PipelineState → Owned → ℕ → ℕ → List Map
+maps_back base p owner version zero = part owner (map_over base (history p) version) ∷ []
+maps_back base p owner version (suc count) =
+    part owner (map_over base (history p) version) ∷ maps_back base p owner (version - 1) count
 
 -- what a server has that has pulled up to this version
-abbrev pub server_at : PipelineState → Owned → ℕ → ServerState
-server_at p owner clock = record { version = clock; maps = maps_back p owner clock (min p.window (clock - p.start)) }
+abbrev pub server_at : Map → PipelineState → Owned → ℕ → ServerState
+server_at base p owner clock =
+    record { version = clock; maps = maps_back base p owner clock (min p.window (clock - p.start)) }
 
-abbrev pub servers_at : PipelineState → List Owned → List ℕ → List ServerState
-servers_at p [] clocks = []
-servers_at p (owner ∷ others) [] = []
-servers_at p (owner ∷ others) (clock ∷ clocks) = server_at p owner clock ∷ servers_at p others clocks
+abbrev pub servers_at : Map → PipelineState → List Owned → List ℕ → List ServerState
+servers_at base p [] clocks = []
+servers_at base p (owner ∷ others) [] = []
+servers_at base p (owner ∷ others) (clock ∷ clocks) =
+    server_at base p owner clock ∷ servers_at base p others clocks
 
 -- the servers of a cluster: each has its part of the database at its clock and as far back as the window
 abbrev pub tier_of : ClusterState → TierState
 tier_of c =
-    record { splits = c.splits; window = c.pipeline.window; servers = servers_at c.pipeline (owners c.splits) c.pulled }
+    record {
+      splits = c.splits;
+      window = c.pipeline.window;
+      servers = servers_at c.base c.pipeline (owners c.splits) c.pulled;
+    }
 
 -- the log that serves a server
 abbrev pub log_of : ClusterState → ℕ → ℕ
@@ -56,6 +66,7 @@ pub record HasSameServers (old new : ClusterState) : Type 0 where
 
 -- each server has pulled as far as before or further, and no further than its log; nothing else has changed
 pub record HasPulled (old new : ClusterState) : Type 0 where
+  pub base : new.base ≡ old.base
   pub pipeline : new.pipeline ≡ old.pipeline
   pub splits : new.splits ≡ old.splits
   pub count : length new.pulled ≡ length old.pulled
@@ -101,7 +112,7 @@ forget c =
 
 -- a pipeline alone, as a cluster that has no servers
 abbrev pub without_servers : PipelineState → ClusterState
-without_servers pipeline = record { pipeline = pipeline; splits = []; pulled = [] }
+without_servers pipeline = record { base = empty; pipeline = pipeline; splits = []; pulled = [] }
 
 -- the cluster with another state of its pipeline
 abbrev pub with_pipeline : PipelineState → ClusterState → ClusterState

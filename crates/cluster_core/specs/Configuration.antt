@@ -12,9 +12,9 @@ use Rattle.cluster_core.specs.declared.answers.ConfigError.TheVariants.{BadCount
 use Rattle.kv_core.specs.declared.change.CommitRequest.{CommitRequest}
 use Rattle.cluster_core.specs.Cluster.{ClusterState}
 use Rattle.cluster_core.specs.History.{map_at}
-use Rattle.cluster_core.specs.Decision.{owners, numbered, committed, log}
+use Rattle.cluster_core.specs.Decision.{Owned, owners, numbered, committed, log}
 use Rattle.cluster_core.specs.Roles.{PipelineState}
-use Rattle.cluster_core.specs.Tier.{TierState, after_log, Makes, whole_map}
+use Rattle.cluster_core.specs.Tier.{ServerState, TierState, after_log, Makes, part, whole_map}
 
 -- whether there may be so many of a role
 abbrev pub is_count : ℕ → Bool
@@ -71,6 +71,19 @@ first_tier config =
       servers = map (λ _. record { version = config.start; maps = empty ∷ [] }) (owners config.storage_splits);
     }
 
+-- a server over a base at a version: it has its part of that
+abbrev pub first_server_over : Map → ℕ → Owned → ServerState
+first_server_over base version owner = record { version = version; maps = part owner base ∷ [] }
+
+-- the servers over a base: each has its part of that at `start`
+abbrev pub first_tier_over : Map → Config → TierState
+first_tier_over base config =
+    record {
+      splits = config.storage_splits;
+      window = config.window;
+      servers = map (first_server_over base config.start) (owners config.storage_splits);
+    }
+
 -- whatever log the servers have absorbed, within the window their maps together are those that the log makes
 abbrev pub TierFollowsLog : Type 0
 TierFollowsLog =
@@ -91,11 +104,16 @@ TierHasDatabase =
     whole_map (after_log (log config.resolver_splits entries) (first_tier config)) version
     ≡ map_at (committed config.resolver_splits entries) version
 
--- the cluster at the start: every server stands at `start` too
-abbrev pub first_cluster : Config → ClusterState
-first_cluster config =
+-- the cluster over a base, without requests: every server stands at `start` too, and has the base there
+abbrev pub first_cluster_over : Map → Config → ClusterState
+first_cluster_over base config =
     record {
+      base = base;
       pipeline = first_pipeline config;
       splits = config.storage_splits;
       pulled = map (λ _. config.start) (owners config.storage_splits);
     }
+
+-- the cluster at the start: so it is over the empty map
+abbrev pub first_cluster : Config → ClusterState
+first_cluster config = first_cluster_over empty config

@@ -9,7 +9,7 @@ use Rattle.kv_core.specs.Range.{KeyRange}
 use Rattle.cluster_core.specs.declared.chain.Link.{Link}
 use Rattle.cluster_core.specs.declared.server.Server.{Server}
 use Rattle.cluster_core.specs.Chains.{Falls, links_at, needed, shown, without}
-use Rattle.cluster_core.specs.Configuration.{is_rising_above}
+use Rattle.cluster_core.specs.Configuration.{first_server_over, is_rising_above}
 use Rattle.cluster_core.specs.Decision.{Owned, owners}
 use Rattle.cluster_core.specs.Tier.{ServerState, map_of, part}
 
@@ -34,6 +34,10 @@ owner_of server = server.part
 -- Private: a server at the start: it has the empty map at its first version
 abbrev pub first_server : ℕ → ServerState
 first_server version = record { version = version; maps = empty ∷ [] }
+
+-- Private: a server over a base, at its first version
+abbrev pub IsFirstOver : Map → ℕ → Server → Type 0
+IsFirstOver base version server = server_state server ≡ first_server_over base version (owner_of server)
 
 -- Private: the map that a server's chains show at the version to come
 abbrev pub next_map : Server → Map

@@ -2,15 +2,15 @@
 // reads from it.
 ghost use Rattle.std.specs.Prelude.{◌≡◌, ◌⊎◌, ◌+◌, ◌<◌, ◌≤◌, Some, IsNone, IsTrue, IfOk};
 ghost use Rattle.std.specs.Prelude.{IfErr, OnOk, OnErr, if◌then◌else◌, length};
-ghost use Rattle.std.specs.FinMap.{get};
+ghost use Rattle.std.specs.FinMap.{from_entries, get};
 ghost use Rattle.kv_core.specs.Range.{point};
 ghost use Rattle.kv_core.specs.Read.{read_of};
 ghost use Rattle.cluster_core.specs.Cluster.{Did, HasPulled, HasSameServers, HasWholeLog, IsAllPulled};
 ghost use Rattle.cluster_core.specs.Cluster.{IsBehind, IsSomeBehind};
 ghost use Rattle.cluster_core.specs.Cluster.{database_at, forget as with_forgotten, may_pull, pull as with_pulled};
 ghost use Rattle.cluster_core.specs.Cluster.{tier_of, with_pipeline};
-ghost use Rattle.cluster_core.specs.Configuration.{config_refusal, first_cluster};
-ghost use Rattle.cluster_core.specs.History.{IsLegal};
+ghost use Rattle.cluster_core.specs.Configuration.{config_refusal, first_cluster, first_cluster_over};
+ghost use Rattle.cluster_core.specs.History.{IsLegalOver};
 ghost use Rattle.cluster_core.specs.Roles.{AreInOrder, append as with_appended, history, may_append, may_report};
 ghost use Rattle.cluster_core.specs.Roles.{done_with, kept, may_resolve, outcome, report as with_reported};
 ghost use Rattle.cluster_core.specs.Roles.{resolve as with_resolved};
@@ -18,6 +18,7 @@ ghost use Rattle.cluster_core.specs.Roles.{submit as with_submitted, submit_refu
 ghost use Rattle.cluster_core.specs.Tier.{refusal};
 
 use crate::answers::{Config, ConfigError, Reported, SubmitError, Work};
+use crate::base::Base;
 use crate::pipeline::{Pipeline, Ticket};
 use crate::tier::Tier;
 use kv_core::{Bytes, CommitRequest, KeyRange, Pair, ReadError};
@@ -29,19 +30,25 @@ use std::marker::Model;
 /// pull from the logs.
 #[derive(Debug, Drop)]
 pub struct Cluster {
+    base: Base,
     pipeline: Pipeline,
     tier: Tier,
 }
 
 impl Model for Cluster {
+    ghost use Rattle.std.specs.Coded.{codes};
+    ghost use Rattle.kv_core.specs.contracts.change.CommitRequest as requests;
     ghost use Rattle.cluster_core.specs.Cluster.{ClusterState};
+    ghost use Rattle.cluster_core.specs.TierCode.{map_code};
     ghost use Rattle.cluster_core.specs.Pulled.{IsCluster, cluster_of};
 
     ghost Value = { ClusterState };
 
-    ghost view = { λ a. cluster_of a.pipeline a.tier };
+    ghost coded = { Prim.hlevel (codes, map_code, requests.the_row.coded) };
 
-    ghost invariant = { λ a. IsCluster a.pipeline a.tier };
+    ghost view = { λ a. cluster_of a.base.map a.pipeline a.tier };
+
+    ghost invariant = { λ a. IsCluster a.base.map a.pipeline a.tier };
 }
 
 impl Cluster {
@@ -58,7 +65,34 @@ impl Cluster {
     {
         let pipeline = Pipeline::new(alloc, config)?;
         let tier = Tier::new(alloc, config)?;
-        Ok(Cluster { pipeline, tier })
+        let pairs = Vec::new(alloc);
+        let base = Base::of(&pairs);
+        Ok(Cluster {
+            base,
+            pipeline,
+            tier,
+        })
+    }
+
+    /// The cluster over the map of these pairs, without requests: it stands at the first version of
+    /// the configuration and at those before it, and is no map of version 0. Where a key is there
+    /// more than once, the first of its pairs stands. It is refused as `new` is.
+    pub fn over(alloc: Global, config: &Config, pairs: Vec<Pair>) -> Result<Cluster, ConfigError>
+        requires { 1 ≤ config.now.start }
+        ensures made { IfOk result (λ cluster.
+            cluster ≡ first_cluster_over (from_entries pairs.items) config.now) }
+        ensures allowed { OnOk result (IsNone (config_refusal config.now)) }
+        ensures refused { IfErr result (λ error.
+            (error ≡ ConfigError.Memory) ⊎ (config_refusal config.now ≡ Some error)) }
+    {
+        let pipeline = Pipeline::new(alloc, config)?;
+        let base = Base::of(&pairs);
+        let tier = Tier::over(alloc, config, pairs)?;
+        Ok(Cluster {
+            base,
+            pipeline,
+            tier,
+        })
     }
 
     /// The last reported version. The clocks of the pipeline's roles stand in order, from it up to
@@ -76,7 +110,7 @@ impl Cluster {
     pub fn requests(&self) -> &VecDeque<CommitRequest>
         ensures value { result.now.items ≡ kept self.now.pipeline }
         ensures needed { self.now.pipeline.forgotten ≤ done_with self.now.pipeline }
-        ensures legal { IsLegal (history self.now.pipeline) }
+        ensures legal { IsLegalOver self.now.base (history self.now.pipeline) }
     {
         self.pipeline.requests()
     }

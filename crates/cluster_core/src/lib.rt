@@ -2,6 +2,7 @@
 #![tactic(auto)]
 
 mod answers;
+mod base;
 mod chain;
 mod chains;
 mod cluster;

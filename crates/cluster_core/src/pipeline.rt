@@ -3,7 +3,8 @@
 ghost use Rattle.std.specs.Prelude.{◌≡◌, ◌⊎◌, ◌*◌, ℕ, [], slice_index, ◌+◌, ◌-◌, ◌<◌, ◌≤◌, Some, None};
 ghost use Rattle.std.specs.Prelude.{IsNone, IfOk, IfErr, OnOk, OnErr, if◌then◌else◌, length, map};
 ghost use Rattle.std.specs.Prelude.{replicate, slice_get, true, nat_lt, ◌^◌, IsSome, IfSome, is_some};
-ghost use Rattle.cluster_core.specs.History.{IsLegal};
+ghost use Rattle.kv_core.specs.Map.{Map};
+ghost use Rattle.cluster_core.specs.History.{IsLegalOver};
 ghost use Rattle.cluster_core.specs.Decision.{log, owners};
 ghost use Rattle.cluster_core.specs.Configuration.{config_refusal, first_pipeline};
 ghost use Rattle.cluster_core.specs.Cluster.{Did};
@@ -148,7 +149,7 @@ impl Pipeline {
     pub fn requests(&self) -> &VecDeque<CommitRequest>
         ensures value { result.now.items ≡ kept self.now }
         ensures needed { self.now.forgotten ≤ done_with self.now }
-        ensures legal { IsLegal (history self.now) }
+        ensures legal { (base : Map) → IsLegalOver base (history self.now) }
     {
         self.requests.kept()
     }

@@ -1,7 +1,7 @@
 // The storage server role, for a share of the keys. Used by `tier`.
 ghost use Rattle.std.specs.Prelude.{◌≡◌, ◌+◌, ◌<◌, ◌≤◌, ◌^◌, ◌∷◌, ◌++◌, IfOk, OnOk, OnErr, None, ℕ};
-ghost use Rattle.std.specs.Prelude.{All, IsTrue, ◌↔◌, if◌then◌else◌, length, map, take};
-ghost use Rattle.std.specs.FinMap.{get};
+ghost use Rattle.std.specs.Prelude.{All, IsTrue, ◌↔◌, ◌-◌, if◌then◌else◌, length, map, min, take};
+ghost use Rattle.std.specs.FinMap.{empty, get};
 ghost use Rattle.std.specs.List.{AllByRecursion, find, flat_map};
 ghost use Rattle.std.specs.Option.{option_copied};
 ghost use Rattle.std.specs.VecDeque.{deque_len, deque_capacity};
@@ -12,7 +12,7 @@ ghost use Rattle.kv_core.specs.Read.{read_of};
 ghost use Rattle.cluster_core.specs.Chains.{AreBelow, AreFalling, Writes, links_at, shown};
 ghost use Rattle.cluster_core.specs.Cluster.{done_with_by};
 ghost use Rattle.cluster_core.specs.Decision.{cut, owns};
-ghost use Rattle.cluster_core.specs.Server.{IsAtRest, IsServer, IsStaged, first_server, next_map};
+ghost use Rattle.cluster_core.specs.Server.{IsAtRest, IsFirstOver, IsServer, IsStaged, first_server, next_map};
 ghost use Rattle.cluster_core.specs.Server.{owner_of, pairs_at, server_state, turned};
 ghost use Rattle.cluster_core.specs.Tier.{absorb, absorb_each, first_refusal, map_of, part};
 ghost use Rattle.cluster_core.specs.Tier.{refusal_of};
@@ -85,6 +85,24 @@ impl Server {
             chains: Chains::new(alloc),
             recent: VecDeque::new(alloc),
         }
+    }
+
+    /// A server that has at a version, which isn't 0, what the mutations make of the empty map, unless
+    /// memory runs out.
+    pub(crate) fn over(
+        alloc: Global,
+        part: Part,
+        version: u64,
+        mutations: &[Mutation],
+    ) -> Result<Server, AllocError>
+        requires { 1 ≤ version }
+        ensures owner { IfOk result (λ server. owner_of server ≡ part) }
+        ensures first { IfOk result (IsFirstOver (after_all mutations.now empty) version) }
+        ensures kept { IfOk result (λ server. (window : ℕ) → IsServer window server) }
+    {
+        let mut server = Server::new(alloc, part, version - 1);
+        server.pull(0, mutations)?;
+        Ok(server)
     }
 
     /// The last version that the server applied.
@@ -225,16 +243,21 @@ impl Server {
         }
     }
 
+    /// The version whose map is read for one: the version itself, or the oldest that is there.
+    fn version_read(&self, version: u64) -> u64
+        ensures { result ≡ self.now.version - min (self.now.version - version) (length self.now.recent.items) }
+    {
+        let back = self.version.saturating_sub(version);
+        let kept = self.recent.len() as u64;
+        self.version - if kept < back { kept } else { back }
+    }
+
     /// The value of a key in the map at a version, or None where it has none.
     pub(crate) fn value(&self, key: &Bytes, version: u64) -> Option<&Bytes>
         requires { AreFalling self.now.chains.chains }
         ensures { option_copied result ≡ get (map_of (server_state self.now) version) key.now }
     {
-        let back = self.version.saturating_sub(version);
-        if (self.recent.len() as u64) < back {
-            return None;
-        }
-        self.chains.value(key, self.version - back)
+        self.chains.value(key, self.version_read(version))
     }
 
     /// How many values of a key are kept.
@@ -256,11 +279,8 @@ impl Server {
         ensures { IfOk result (λ pairs.
             pairs.items ≡ read_of (map_of (server_state self.now) version) range.now limit reverse) }
     {
-        let back = self.version.saturating_sub(version);
-        if (self.recent.len() as u64) < back {
-            return Ok(Vec::new(self.alloc));
-        }
-        self.chains.read(range, self.version - back, limit, reverse)
+        self.chains
+            .read(range, self.version_read(version), limit, reverse)
     }
 }
 

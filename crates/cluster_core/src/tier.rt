@@ -2,14 +2,15 @@
 // from it, and by `runtime`, which publishes it to readers.
 ghost use Rattle.std.specs.Prelude.{◌≡◌, ℕ, ◌⊎◌, ◌+◌, ◌<◌, ◌≤◌, ◌^◌, ◌↔◌, Some, IsTrue, IsNone, IfOk};
 ghost use Rattle.std.specs.Prelude.{IfErr, OnOk, OnErr, All, length, map, slice_get, slice_set};
-ghost use Rattle.std.specs.FinMap.{get};
+ghost use Rattle.std.specs.FinMap.{empty, from_entries, get};
 ghost use Rattle.std.specs.List.{AllByRecursion};
+ghost use Rattle.kv_core.specs.Map.{after_all};
 ghost use Rattle.kv_core.specs.Range.{point};
 ghost use Rattle.kv_core.specs.Read.{read_of};
 ghost use Rattle.cluster_core.specs.Cluster.{done_with_by};
-ghost use Rattle.cluster_core.specs.Configuration.{config_refusal, first_tier};
+ghost use Rattle.cluster_core.specs.Configuration.{config_refusal, first_tier, first_tier_over};
 ghost use Rattle.cluster_core.specs.Decision.{Owned, owners};
-ghost use Rattle.cluster_core.specs.Server.{IsServer, first_server, owner_of, server_state};
+ghost use Rattle.cluster_core.specs.Server.{IsFirstOver, IsServer, first_server, owner_of, server_state};
 ghost use Rattle.cluster_core.specs.Tier.{ServerState, absorb, absorb_all, refusal, whole_map};
 
 use crate::answers::{Config, ConfigError, Splits};
@@ -63,6 +64,40 @@ fn servers_of(alloc: Global, parts: Vec<Part>, version: u64) -> Result<Vec<Serve
     Ok(servers)
 }
 
+/// A server for each part of the keys that has at a version, which isn't 0, what the mutations make
+/// of the empty map.
+fn servers_over(
+    alloc: Global,
+    parts: Vec<Part>,
+    version: u64,
+    mutations: &[Mutation],
+) -> Result<Vec<Server>, AllocError>
+    requires { 1 ≤ version }
+    ensures owners { IfOk result (λ servers. map owner_of servers.items ≡ parts.items) }
+    ensures states { IfOk result (λ servers.
+        AllByRecursion (IsFirstOver (after_all mutations.now empty) version) servers.items) }
+    ensures kept { IfOk result (λ servers.
+        AllByRecursion (λ server. (window : ℕ) → IsServer window server) servers.items) }
+{
+    let mut servers = Vec::new(alloc);
+    for part in parts {
+        servers.push(Server::over(alloc, part, version, mutations)?)?;
+    }
+    Ok(servers)
+}
+
+/// Mutations that put these pairs, the last one first, so that the first of a key's pairs stands.
+fn puts_of(alloc: Global, pairs: Vec<Pair>) -> Result<Vec<Mutation>, AllocError>
+    ensures { IfOk result (λ mutations. after_all mutations.items empty ≡ from_entries pairs.items) }
+{
+    let mut rest = pairs;
+    let mut mutations = Vec::new(alloc);
+    while let Some((key, value)) = rest.pop() {
+        mutations.push(Mutation::Set { key, value })?;
+    }
+    Ok(mutations)
+}
+
 impl Tier {
     /// The servers at the start: each has the empty map at the first version.
     ///
@@ -81,6 +116,31 @@ impl Tier {
         let splits = config.storage_splits.copy()?;
         let parts = parts_between(alloc, splits.as_slice())?;
         let servers = servers_of(alloc, parts, config.start)?;
+        Ok(Tier {
+            alloc,
+            window: config.window,
+            splits,
+            servers,
+        })
+    }
+
+    /// The servers over the map of these pairs: each has its part of it at the first version, which
+    /// isn't 0, and at those before. Where a key is there more than once, the first of its pairs
+    /// stands. It is refused as `new` is.
+    pub fn over(alloc: Global, config: &Config, pairs: Vec<Pair>) -> Result<Tier, ConfigError>
+        requires { 1 ≤ config.now.start }
+        ensures made { IfOk result (λ tier. tier ≡ first_tier_over (from_entries pairs.items) config.now) }
+        ensures allowed { OnOk result (IsNone (config_refusal config.now)) }
+        ensures refused { IfErr result (λ error.
+            (error ≡ ConfigError.Memory) ⊎ (config_refusal config.now ≡ Some error)) }
+    {
+        if let Some(error) = refusal_of(config) {
+            return Err(error);
+        }
+        let splits = config.storage_splits.copy()?;
+        let parts = parts_between(alloc, splits.as_slice())?;
+        let mutations = puts_of(alloc, pairs)?;
+        let servers = servers_over(alloc, parts, config.start, mutations.as_slice())?;
         Ok(Tier {
             alloc,
             window: config.window,

@@ -134,7 +134,7 @@ behind-unread c new request old handled logs pulled behind readable =
 -- servers that stood have pulled nothing, and what they pull later counts from there
 pub has-stood : (old new : ClusterState) → new ≡ with_pipeline new.pipeline old → HasPulled (with_pipeline new.pipeline old) new
 has-stood old new stood =
-    subst (λ s. HasPulled s new) stood (record { pipeline = refl; splits = refl; count = refl; on = λ s. omega arith; within = λ s. omega arith })
+    subst (λ s. HasPulled s new) stood (record { base = refl; pipeline = refl; splits = refl; count = refl; on = λ s. omega arith; within = λ s. omega arith })
 
 pub has-moved : (old mid new : ClusterState) → mid ≡ with_pipeline mid.pipeline old → HasPulled mid new → HasPulled (with_pipeline new.pipeline old) new
 has-moved old mid new stood pulled = subst (λ s. HasPulled s new) (stood ∙ ap (λ p. with_pipeline p old) (sym pulled.pipeline)) pulled

@@ -58,7 +58,7 @@ module _ (calls_of : Entry → List (List Attempt)) (history : List Entry) (risi
   Called entry = IsOfCalls (map_at history) (calls_of entry) entry.request
 
   abbrev Again : Entry → Type 0
-  Again entry = Replays (Stands host_store) IsSerialAt after_call calls_of history entry
+  Again entry = Replays (Stands host_store) IsSerialAt after_call calls_of empty history entry
 
   abbrev Replied : Entry → Type 0
   Replied entry = AllReplied (Stands host_store) IsSerialAt after_call (state_at (Stands host_store) IsSerialAt after_call calls_of None history (entry.version - 1)) (calls_of entry)
@@ -83,10 +83,10 @@ module _ (calls_of : Entry → List (List Attempt)) (history : List Entry) (risi
   again = All-from_recursion Again history (each_again history (recursion_from_All Called history are))
 
   holds_then : (version : ℕ) → Stands host_store (map_at history version) (stored_at calls_of history version)
-  holds_then version = holds_at (Stands host_store) IsSerialAt after_call calls_of None none_held history rising legal again version
+  holds_then version = holds_at (Stands host_store) IsSerialAt after_call calls_of empty None none_held history rising legal again version
 
   meant : All Meant history
-  meant = All-from_recursion Meant history (each_meant history (recursion_from_All Replied history (replied_at (Stands host_store) IsSerialAt after_call calls_of None none_held history rising legal again)))
+  meant = All-from_recursion Meant history (each_meant history (recursion_from_All Replied history (replied_at (Stands host_store) IsSerialAt after_call calls_of empty None none_held history rising legal again)))
 
   rows_then : (calls : List (List Attempt)) (request : CommitRequest) → IsOfCalls (map_at history) calls request → CallByCall AreRightlyAnswered (stored_at calls_of history request.read_version) calls
   rows_then calls request called =

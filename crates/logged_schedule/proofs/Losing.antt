@@ -18,8 +18,8 @@ use Rattle.schedule.specs.Exact.{IsReplyTo}
 use Rattle.schedule.specs.Headline.{WasOpen}
 use Rattle.schedule.specs.Past.{Open, Past, Submission, submitted_in}
 use Rattle.schedule.specs.Running.{AreKept, IsStillOpen, StandsAfter}
-use Rattle.schedule.specs.Standing.{cluster_after, is_reported}
-use Rattle.schedule.specs.Stepwise.{DoesNext, HasDone, StepwiseState}
+use Rattle.schedule.specs.Standing.{cluster_from, is_reported}
+use Rattle.schedule.specs.Stepwise.{DoesNext, HasDoneFrom, StepwiseState}
 use Rattle.schedule.proofs.Growing.{each_reply_append, past_of_append}
 use Rattle.schedule.proofs.RoleSteps.{log_given}
 use Rattle.logged_schedule.specs.Runs.{done_as, lost, told_as}
@@ -95,11 +95,11 @@ is_lost p subs reply is never = by_test (may_report p) refl
 -- ---- the step
 
 lost_next : (reply : Reply) (before after : StepwiseState) → AreInOrder after.database.cluster.pipeline → DoesNext steps.Report reply before after → DoesNext steps.Lost (told_as steps.Lost reply) before after
-lost_next reply before after ordered next config done_steps replies done = (
+lost_next reply before after ordered next first done_steps replies done = (
   record {
     right = λ more. each_reply_append (R more) [] done_steps replies steps.Lost hidden (each more).0 (is more).right;
     cluster = λ more.
-        ap (cluster_after config (full more)) there ∙ ap (λ b. cond b (with_pipeline (report (c more).pipeline) (c more)) (c more)) (is more).reported ∙ sym (ap (cluster_after config (full more)) here)
+        ap (cluster_from first (full more)) there ∙ ap (λ b. cond b (with_pipeline (report (c more).pipeline) (c more)) (c more)) (is more).reported ∙ sym (ap (cluster_from first (full more)) here)
         ∙ longer.0.cluster more;
     stands = subst (λ p. StandsAfter p after.database) (sym there) stood;
     opened =
@@ -115,20 +115,20 @@ lost_next reply before after ordered next config done_steps replies done = (
     past : Past
     past = past_of [] done_steps replies
 
-    longer : HasDone config (done_steps ++ steps.Report ∷ []) (replies ++ reply ∷ []) after
-    longer = next config done_steps replies done
+    longer : HasDoneFrom first (done_steps ++ steps.Report ∷ []) (replies ++ reply ∷ []) after
+    longer = next first done_steps replies done
 
     full : List CommitRequest → List CommitRequest
     full more = after.database.cluster.pipeline.requests ++ more
 
     c : List CommitRequest → ClusterState
-    c more = cluster_after config (full more) past
+    c more = cluster_from first (full more) past
 
     R : List CommitRequest → Past → Step → Reply → Type 0
-    R more so_far one answer = IsReplyTo (cluster_after config (full more) so_far) so_far one answer
+    R more so_far one answer = IsReplyTo (cluster_from first (full more) so_far) so_far one answer
 
     S : Past → Step → Reply → Type 0
-    S so_far one answer = IsReplyTo (cluster_after config (before.database.cluster.pipeline.requests ++ []) so_far) so_far one answer
+    S so_far one answer = IsReplyTo (cluster_from first (before.database.cluster.pipeline.requests ++ []) so_far) so_far one answer
 
     here : past_of [] (done_steps ++ steps.Report ∷ []) (replies ++ reply ∷ []) ≡ (steps.Report, reply) ∷ past
     here = past_of_append S [] done_steps replies steps.Report reply (done.0.right [])
@@ -145,7 +145,7 @@ lost_next reply before after ordered next config done_steps replies done = (
     -- where nothing was reported, the cluster stays, and so it had nothing to report
     never : (more : List CommitRequest) → may_report (c more).pipeline ≡ true → outcome (c more).pipeline ((c more).pipeline.reported + 1) ≡ NothingToDo → reply ≡ answers.Nothing → ⊥
     never more may nothing idle =
-        let moved : cond (is_reported reply) (with_pipeline (report (c more).pipeline) (c more)) (c more) ≡ after.database.cluster = sym (ap (cluster_after config (full more)) here) ∙ longer.0.cluster more in
+        let moved : cond (is_reported reply) (with_pipeline (report (c more).pipeline) (c more)) (c more) ≡ after.database.cluster = sym (ap (cluster_from first (full more)) here) ∙ longer.0.cluster more in
         let same : c more ≡ after.database.cluster = sym (ap (λ r. cond (is_reported r) (with_pipeline (report (c more).pipeline) (c more)) (c more)) idle) ∙ moved in
         let p = after.database.cluster.pipeline in
         let can : may_report p ≡ true = subst (λ (k : ClusterState). may_report k.pipeline ≡ true) same may in

@@ -14,6 +14,7 @@ use Rattle.journal.specs.Journal.{IsBeforeOrAfter, entries_read}
 use Rattle.replay.specs.Logged.{last_version}
 use Rattle.replay.specs.Replaying.{AreWrittenAs, log_bytes}
 use Rattle.durable.specs.Keeping.{HasOnDisk, no_base}
+use Rattle.cluster_core.specs.Configuration.{first_cluster}
 use Rattle.schedule.specs.declared.step.Step.{Step}
 use Rattle.schedule.specs.Past.{Past}
 use Rattle.schedule.specs.Stepwise.{DoesNext}
@@ -39,7 +40,7 @@ use Rattle.logged_schedule.proofs.Logs.{appended_batch, leaves_batch, says_both,
 pub steps_followed : (step : Step) (before : Followed) (stepped : Stepped) → DoesNext (done_as step) stepped.reply before.schedule stepped.followed.schedule →
     ((past : Past) → IsFollowed past before.following → SubmitsOfClients (done_as step) stepped.reply → DoesFollow past (done_as step) stepped.reply stepped.told.items stepped.followed.following) → StepsFollowed step before stepped
 steps_followed step before stepped next notes run follows =
-    let after = next run.config run.steps run.replies follows.done in
+    let after = next (first_cluster run.config) run.steps run.replies follows.done in
     let of = submits run (done_as step) stepped.reply before.schedule stepped.followed.schedule follows.done after in
     let noted = notes (past_in run) follows.follows of in (
       record {

@@ -52,6 +52,7 @@ report_logged false old new step = ap (λ (c : ClusterState). c.pipeline.logged)
 pub pulled_then : (old mid new : ClusterState) → HasPulled (with_pipeline mid.pipeline old) mid → new ≡ with_pipeline new.pipeline mid → new.pipeline.logged ≡ mid.pipeline.logged → HasPulled (with_pipeline new.pipeline old) new
 pulled_then old mid new pulled stood same =
     subst (HasPulled (with_pipeline new.pipeline old)) (sym stood) (record {
+      base = pulled.base;
       pipeline = refl;
       splits = pulled.splits;
       count = pulled.count;
@@ -158,6 +159,7 @@ module _ (e f : ClusterState) (readable : IsReadable e) (step : f ≡ forget_by_
   pub forgotten_pulled : (a : ClusterState) → HasPulled (with_pipeline e.pipeline a) e → HasPulled (with_pipeline f.pipeline a) f
   forgotten_pulled a pulled =
       subst (λ (c : ClusterState). HasPulled (with_pipeline c.pipeline a) c) (sym step) (record {
+        base = pulled.base;
         pipeline = refl;
         splits = pulled.splits;
         count = pulled.count;

@@ -84,9 +84,14 @@ impl Drop for Database {
 }
 
 impl Model for Database {
+    ghost use Rattle.std.specs.Coded.{codes};
+    ghost use Rattle.kv_core.specs.contracts.change.CommitRequest as requests;
+    ghost use Rattle.cluster_core.specs.TierCode.{map_code};
     ghost use Rattle.record_layer.specs.Databases.{DatabaseView, IsDatabase};
 
     ghost Value = { DatabaseView };
+
+    ghost coded = { Prim.hlevel (codes, map_code, requests.the_row.coded) };
 
     ghost view = { λ d. record { cluster = d.cluster; is_settled = d.is_settled } };
 

@@ -31,7 +31,8 @@ pub use query::{Filter, Operator, Query, QueryError};
 pub use record_store::{KnownSchema, Records, Store, StoreError, StoreNumber};
 pub use runtime::{
     Body, Built, Client, CommandError, CommitError, Done, End, EnterError, Gate, GatePoint,
-    OpenError, RunError, Seen, Txn, Waits, begin, begin_in, build_worker, build_worker_in, open,
+    NotKept, OpenError, RunError, Seen, Txn, Waits, begin, begin_in, build_worker, build_worker_in,
+    open, open_kept,
 };
 pub use schedule::{AskedQuery, Command, Reply, SharedPlan};
 pub use session::Session;

@@ -4,6 +4,7 @@ use Rattle.std.proofs.Common.{◌≡◌, subst, ◌⊎◌, inl, inr, ℕ, ◌≤
 use Rattle.std.proofs.lemmas.Bool.Decides.{nat_tests}
 use Rattle.std.proofs.lemmas.List.{length-take, take_all}
 use Rattle.cluster_core.specs.declared.answers.Config.{Config}
+use Rattle.cluster_core.specs.Configuration.{first_cluster}
 use Rattle.schedule.specs.Stepwise.{HasDone, StepwiseState}
 use Rattle.schedule.specs.declared.step.Step.{Step}
 use Rattle.logged_schedule.specs.Opening.{from_version}
@@ -76,7 +77,7 @@ run_of_begun None begun N before (Err why) is same next = tt
 run_of_begun (Some text) begun N before (Err why) is same next = tt
 run_of_begun (Some text) begun N before (Ok after) is same next =
     λ none.
-    let (more, done) = next begun.config [] [] (subst (HasDone begun.config [] []) (sym (same none)) is.done) in
+    let (more, done) = next (first_cluster begun.config) [] [] (subst (HasDone begun.config [] []) (sym (same none)) is.done) in
     record { config = begun.config; steps = begun.steps.items; replies = more; script = is.script; done = done; allowed = is.allowed }
 
 -- so it is over a database of some steps

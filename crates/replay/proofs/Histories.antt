@@ -25,7 +25,7 @@ use Rattle.schedule.specs.declared.reply.Reply.{Reply}
 use Rattle.schedule.specs.declared.step.Command.{Command}
 use Rattle.schedule.specs.declared.step.Command.TheVariants.{Create, «Type», Field, Save, Load, Remove, Query, Plan, Execute, Index, Drop, Disable, WriteOnly, Readable, Build, State, Aggregate}
 use Rattle.schedule.specs.Exact.{IsSerialAt, commands_written}
-use Rattle.schedule.specs.Holds.{Stands}
+use Rattle.schedule.specs.Holds.{HoldsAll, Stands}
 use Rattle.record_store.specs.Layout.{is_store_number, store_prefix}
 use Rattle.schedule.specs.Past.{Attempt, Open, accepted, is_accepted}
 use Rattle.schedule.specs.Performed.{IsLimited}
@@ -40,7 +40,7 @@ use Rattle.command_log.specs.declared.entry.Entry.{Entry}
 use Rattle.replay.specs.Commands.{change_of, command_of, commands_of}
 use Rattle.replay.specs.Histories.{HistoriesReplay, IsLogOfHistory, IsMadeSo, TellsOfCommit}
 use Rattle.replay.specs.Laws.{changes_among}
-use Rattle.replay.specs.Logged.{AreAccepted, ComeInOrder, AreReplayable, AreServed, Database, HoldsAll, IsLawfulLog, after_entry, empty_database, last_version, log_database, with_commands}
+use Rattle.replay.specs.Logged.{AreAccepted, ComeInOrder, AreReplayable, AreServed, Database, IsLawfulLog, after_entry, empty_database, last_version, log_database, with_commands}
 use Rattle.replay.proofs.Logs.{changes_suffice, leaves}
 use Rattle.replay.proofs.Replays.{in_order_append, logged_append, replayable_append}
 use Rattle.replay.proofs.Stores.{holds_after, holds_nothing}

@@ -10,14 +10,14 @@ use Rattle.cluster_core.proofs.Versions.{fold-push}
 use Rattle.schedule.specs.declared.reply.Reply.{Reply}
 use Rattle.schedule.specs.declared.step.Command.{Command}
 use Rattle.schedule.specs.Exact.{commands_written}
-use Rattle.schedule.specs.Holds.{Stands}
+use Rattle.schedule.specs.Holds.{HoldsAll, Stands}
 use Rattle.record_store.specs.Layout.{is_store_number}
 use Rattle.schedule.specs.Serve.{effects}
 use Rattle.command_log.specs.declared.entry.Entry.{Entry}
 use Rattle.command_log.specs.Answers.{IsWrittenAs}
 use Rattle.command_log.proofs.Bytes.{one_entry}
 use Rattle.replay.specs.Commands.{commands_of}
-use Rattle.replay.specs.Logged.{AreAccepted, ComeInOrder, AreReplayable, AreServed, Database, HoldsAll, IsPerformable, after_entry, empty_database, last_version, log_database}
+use Rattle.replay.specs.Logged.{AreAccepted, ComeInOrder, AreReplayable, AreServed, Database, IsPerformable, after_entry, empty_database, last_version, log_database}
 use Rattle.replay.specs.Replaying.{AllDone, AreUndone, AreWrittenAs, Has, Image, IsLogged, IsNoLogOn, IsNoStep, IsReplay, IsReplayOn, IsStep, IsNoneRead, IsUnreplayed, IsUnreplayedOn, log_bytes, told_at}
 use Rattle.replay.specs.declared.error.PerformError.{PerformError}
 use Rattle.replay.specs.declared.error.PerformError.TheVariants as performs

@@ -15,12 +15,12 @@ use Rattle.record_store.proofs.Stores.{apart, held_within}
 use Rattle.schedule.specs.declared.reply.Reply.TheVariants.{Done}
 use Rattle.schedule.specs.declared.step.Command.{Command}
 use Rattle.schedule.specs.Exact.{commands_written}
-use Rattle.schedule.specs.Holds.{Stands}
+use Rattle.schedule.specs.Holds.{HoldsAll, Stands, Stores}
 use Rattle.schedule.specs.Past.{Attempt, accepted}
 use Rattle.schedule.specs.Serve.{effects}
 use Rattle.schedule.proofs.Rightly.{written_by}
 use Rattle.schedule.proofs.Within.{written_within}
-use Rattle.replay.specs.Logged.{HoldsAll, Stores, empty_database, stores_after}
+use Rattle.replay.specs.Logged.{empty_database, stores_after}
 
 -- an empty map holds no store
 pub holds_nothing : HoldsAll empty_database.map empty_database.stores

@@ -11,7 +11,8 @@ use Rattle.schedule.specs.Turns.{AreDone, fresh_request}
 use Rattle.command_log.specs.declared.entry.Entry.{Entry}
 use Rattle.replay.specs.Commands.{commands_of}
 use Rattle.replay.specs.Laws.{changes_among}
-use Rattle.replay.specs.Logged.{HoldsAll, IsLawfulLog, log_database}
+use Rattle.schedule.specs.Holds.{HoldsAll}
+use Rattle.replay.specs.Logged.{IsLawfulLog, log_database}
 
 -- the request is what the attempts of this transaction made in its store over these maps, and its writes meet no limit
 pub record IsMadeSo (maps : ℕ → Map) (transaction : Open) (request : CommitRequest) : Type 0 where

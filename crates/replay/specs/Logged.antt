@@ -1,6 +1,6 @@
 -- What the entries of a log come to: each one's commands are performed in one transaction in its store, in their order,
 -- over an empty database.
-use Rattle.std.specs.Prelude.{◌≡◌, ◌<◌, ◌==◌, if◌then◌else◌, ℕ, true, List, [], ◌∷◌, ◌++◌, None, fold, ⊤}
+use Rattle.std.specs.Prelude.{◌≡◌, ◌<◌, ◌==◌, if◌then◌else◌, ℕ, true, List, [], ◌∷◌, ◌++◌, fold, ⊤}
 use Rattle.std.specs.FinMap.{empty}
 use Rattle.kv_core.specs.Map.{Map, after_all}
 use Rattle.kv_core.specs.declared.change.Mutation.{Mutation}
@@ -9,22 +9,13 @@ use Rattle.record_store.specs.Store.{Serial}
 use Rattle.schedule.specs.declared.reply.Reply.{Reply}
 use Rattle.schedule.specs.declared.step.Command.{Command}
 use Rattle.schedule.specs.Serve.{effect, effects}
-use Rattle.schedule.specs.Holds.{NothingElse, Stands}
+use Rattle.schedule.specs.Holds.{Stores, no_stores}
 use Rattle.schedule.specs.Past.{is_accepted}
 use Rattle.schedule.specs.Reach.{writes}
 use Rattle.schedule.specs.Performed.{IsServed}
 use Rattle.schedule.specs.Exact.{commands_written}
 use Rattle.command_log.specs.declared.entry.Entry.{Entry}
 use Rattle.replay.specs.Commands.{commands_of}
-
--- what is there of each store, by its number
-abbrev pub Stores : Type 0
-Stores = ℕ → Serial
-
--- a map has of each store what is there, and nothing else
-pub record HoldsAll (m : Map) (stores : Stores) : Type 0 where
-  pub each : (number : ℕ) → is_store_number number ≡ true → Stands number m (stores number)
-  pub nothing_else : NothingElse m
 
 -- a database: its map, and what is there of each store
 pub record Database : Type 0 where
@@ -33,7 +24,7 @@ pub record Database : Type 0 where
 
 -- one without pairs, and without stores
 abbrev pub empty_database : Database
-empty_database = record { map = empty; stores = λ number. None }
+empty_database = record { map = empty; stores = no_stores }
 
 -- the stores after commands in the one with this number
 abbrev pub stores_after : Stores → ℕ → List Command → Stores

@@ -12,10 +12,10 @@ use Rattle.schedule.specs.Serve.{effects}
 use Rattle.schedule.specs.Past.{is_accepted}
 use Rattle.schedule.specs.Performed.{IsServed}
 use Rattle.schedule.specs.Exact.{commands_written}
-use Rattle.schedule.specs.Holds.{Stands}
+use Rattle.schedule.specs.Holds.{HoldsAll, Stands}
 use Rattle.command_log.specs.declared.entry.Entry.{Entry}
 use Rattle.command_log.specs.Answers.{IsNoWrittenEntry, IsWrittenAs}
-use Rattle.replay.specs.Logged.{AreAccepted, AreServed, Database, HoldsAll, IsPerformable, IsLawfulLog, after_entry}
+use Rattle.replay.specs.Logged.{AreAccepted, AreServed, Database, IsPerformable, IsLawfulLog, after_entry}
 use Rattle.replay.specs.Logged.{last_version, log_database}
 use Rattle.replay.specs.Commands.{commands_of}
 use Rattle.replay.specs.declared.error.PerformError.{PerformError}

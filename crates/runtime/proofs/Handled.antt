@@ -8,7 +8,7 @@ use Rattle.cluster_core.specs.Decision.{Cause}
 use Rattle.cluster_core.specs.Roles.{told}
 use Rattle.kv_core.specs.declared.change.CommitRequest.{CommitRequest}
 use Rattle.runtime.specs.declared.log_entry.Entry.{Entry}
-use Rattle.runtime.specs.declared.trace.Trace.{Trace}
+use Rattle.runtime.specs.Traces.{Trace}
 use Rattle.runtime.specs.declared.in_flight.InFlight.{InFlight}
 use Rattle.runtime.specs.declared.in_flight.InFlight.TheVariants.{Idle, Unreported, Decided, Added}
 use Rattle.runtime.specs.declared.outcome.Outcome.{Outcome}

@@ -1,6 +1,7 @@
 -- A store that a command left open stands open for the next one, over the transaction's log.
 use Rattle.std.proofs.Common.{◌≡◌, ℕ, ◌-◌, ◌≤◌, List, Option, sym, ap, ◌∙◌, subst, arith}
 use mathlib.Core.List.{IsPrefix}
+use Rattle.std.specs.FinMap.{empty}
 use Rattle.kv_core.specs.Map.{Map}
 use Rattle.kv_core.specs.declared.change.CommitRequest.{CommitRequest}
 use Rattle.txn.specs.Reads.{seen}
@@ -8,22 +9,22 @@ use Rattle.record_store.specs.Call.{Opened}
 use Rattle.cluster_core.specs.declared.answers.Config.{Config}
 use Rattle.cluster_core.specs.Tier.{TierState, whole_map}
 use Rattle.schedule.specs.Commits.{view}
-use Rattle.schedule.specs.Holds.{Stands}
+use Rattle.schedule.specs.Holds.{Stands, no_stores}
 use Rattle.schedule.specs.Known.{IsKnown, SeesSerial, StaysKnown}
+use Rattle.schedule.proofs.OwnStore.{holds_nothing}
 use Rattle.schedule.proofs.Composed.{open_sees}
 use Rattle.schedule.proofs.KnownStores.{known_elsewhere}
 use Rattle.runtime.specs.declared.log_entry.Entry.{Entry}
-use Rattle.runtime.specs.declared.trace.Trace.{Trace}
+use Rattle.runtime.specs.Traces.{Trace, opened}
 use Rattle.runtime.specs.History.{Name, Prefix}
 use Rattle.runtime.specs.Logs.{IsOpenOver, IsWellFormedLog, commits_in, log_map, log_tier, pipeline_of, submissions_of, version_of}
-use Rattle.runtime.specs.Traces.{opened}
 use Rattle.runtime.proofs.Serving.{legal_of, same_map}
 
 -- what a transaction over a log sees is a store, or none
 pub sees_serial : (config : Config) (log : List Entry) (request : CommitRequest) (trace : Trace) → IsWellFormedLog config log → IsOpenOver config log request trace → SeesSerial trace.store (log_map config log) request
 sees_serial config log request trace law over = (
   view (commits_in config log) (opened request trace),
-  open_sees (pipeline_of config log) (submissions_of config log) (legal_of config log law) law.submitted (opened request trace) request over,
+  open_sees empty (pipeline_of config log) (submissions_of config log) no_stores holds_nothing (legal_of config log law) law.submitted (opened request trace) request over,
 )
 
 -- the map of these servers is that of the transaction's log, at its version

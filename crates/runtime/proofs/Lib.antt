@@ -1,11 +1,14 @@
 mod Walks
 pub mod Adding
 pub mod Beginnings
+pub mod Changes
 pub mod Rounds
 pub mod Counting
 pub mod Entries
 pub mod Handled
+pub mod Kept
 pub mod Known
+pub mod Returning
 pub mod KnownStores
 pub mod WellFormed
 pub mod Moves

@@ -7,7 +7,7 @@ use Rattle.std.proofs.lemmas.List.Folds.{list_any-append}
 use mathlib.Core.List.{IsPrefix}
 use Rattle.kv_core.specs.declared.change.CommitRequest.{CommitRequest}
 use Rattle.runtime.specs.declared.log_entry.Entry.{Entry}
-use Rattle.runtime.specs.declared.trace.Trace.{Trace}
+use Rattle.runtime.specs.Traces.{Trace}
 use Rattle.runtime.specs.Logs.{AreCounted, AreGiven, HasEarlier, count_of, has_submission}
 use Rattle.runtime.specs.Outcomes.{next_entry}
 use Rattle.runtime.proofs.Submissions.{count_other, count_same, is_numbered_so}

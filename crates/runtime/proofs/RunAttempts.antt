@@ -11,7 +11,7 @@ use Rattle.runtime.specs.declared.open_transaction.OpenTransaction.{OpenTransact
 use Rattle.runtime.specs.declared.published_reads.EnterError.{EnterError}
 use Rattle.runtime.specs.declared.answers.CommandError.{CommandError}
 use Rattle.runtime.specs.declared.answers.CommitError.{CommitError}
-use Rattle.runtime.specs.declared.answers.CommitError.TheVariants.{Conflict, TooOld, VersionsExhausted, Unknown, Memory}
+use Rattle.runtime.specs.declared.answers.CommitError.TheVariants.{Conflict, TooOld, VersionsExhausted, Unknown, Memory, Closed}
 use Rattle.runtime.specs.declared.answers.RunError.{RunError}
 use Rattle.runtime.specs.declared.retrying.Failure.{Failure}
 use Rattle.runtime.specs.declared.retrying.Failure.TheVariants as failures
@@ -96,6 +96,7 @@ module _ (store : ℕ) {B A : Type 0} (did : B → Knowledge → Result A Comman
   commit_failed old new answer VersionsExhausted tries = (answer, (VersionsExhausted, refl, tries))
   commit_failed old new answer Unknown tries = (answer, tries)
   commit_failed old new answer Memory tries = (answer, (Memory, refl, tries))
+  commit_failed old new answer Closed tries = (answer, (Closed, refl, tries))
 
   -- one that isn't told to be refused ended so
   pub failed_so : (old new : B × Knowledge) (failure : Failure A) (ended : Ended) → FailsSo store did old failure new → failure_ended failure ≡ Ok ended → FailsSo store did old (failures.Ended ended) new
@@ -121,6 +122,7 @@ module _ (store : ℕ) {B A : Type 0} (did : B → Knowledge → Result A Comman
   may_more repeatable VersionsExhausted may = may
   may_more repeatable Unknown may = absurd (true≢false (sym may))
   may_more repeatable Memory may = may
+  may_more repeatable Closed may = may
 
   pub fails_more : (repeatable : Bool) (old new : B × Knowledge) → AttemptFails store did false old new → AttemptFails store did repeatable old new
   fails_more repeatable old new is = elim is [
@@ -134,6 +136,7 @@ module _ (store : ℕ) {B A : Type 0} (did : B → Knowledge → Result A Comman
   may_less repeatable VersionsExhausted may = refl
   may_less repeatable Unknown may = absurd (true≢false may)
   may_less repeatable Memory may = refl
+  may_less repeatable Closed may = refl
 
   pub stops_more : (repeatable : Bool) (old new : B × Knowledge) → Stops store did true old new → Stops store did repeatable old new
   stops_more repeatable old new is = (is.0, (is.1.0, may_less repeatable is.1.0 is.1.1, is.1.2))

@@ -18,6 +18,7 @@ use Rattle.cluster_core.specs.contracts.segments.Segments as Segments
 use Rattle.cluster_core.specs.contracts.kept.Writers as Writers
 use Rattle.cluster_core.specs.contracts.resolver.Resolver as Resolver
 use Rattle.cluster_core.specs.contracts.pipeline.Pipeline as Pipeline
+use Rattle.command_log.proofs.entry.Entry.TheSendSync as kept_entry
 use Rattle.schedule.proofs.known.Known.TheSendSync as known
 use Rattle.runtime.proofs.publisher.Publisher.TheSendSync as publisher
 use Rattle.runtime.proofs.log_prefix.LogHead.TheSendSync as head
@@ -27,10 +28,12 @@ use Rattle.runtime.specs.contracts.commit_state.CommitState as CommitState
 use Rattle.runtime.specs.contracts.commit_state.CommitState.TheInside as inside
 use Rattle.runtime.specs.contracts.client.Client as Client
 use Rattle.runtime.specs.contracts.client.Client.TheInside as of_client
-use Rattle.runtime.specs.contracts.critical_section.LockedState as LockedState
-use Rattle.runtime.specs.declared.critical_section.LockedState as owneds
+use Rattle.runtime.specs.contracts.locked_state.LockedState as LockedState
+use Rattle.runtime.specs.contracts.locked_state.LockedState.TheInside as of_locked
+use Rattle.runtime.specs.Keeping.{LockedView}
+use Rattle.runtime.proofs.keeping.Keeping.TheSendSync as keeping
 use Rattle.runtime.specs.declared.commit_lock.Lockable as bounds
-use Rattle.runtime.specs.declared.critical_section.End.{Ghosts}
+use Rattle.runtime.specs.declared.locked_state.End.{Ghosts}
 use Rattle.runtime.proofs.commit_lock.CommitLock.TheSendSync as lock
 use Rattle.runtime.proofs.open_transaction.OpenTransaction.TheSendSync as open_tx
 use Rattle.runtime.proofs.published.Published.TheSendSync as published
@@ -82,29 +85,29 @@ hold_send =
       ),
     )))
 
-owned_field : (E : RattleType) → IsSend E → IsSend (LockedState.the_field E).row
-owned_field E s = search (hold_send, sendable, crosses) depth 20
-
-owned_send : (E : RattleType) → IsSend E → IsSend (LockedState.the_row E)
-owned_send E s = recorded_send (LockedState.the_field E).row _ _ (LockedState.the_type E).to_one (owned_field E s)
+owned_send : (E : RattleType) (g : Ghosts E.Denot) → IsSend E → IsSend (LockedState.the_row E g)
+owned_send E g s =
+    view_send (of_locked.the_row E g) _ _ _ _
+    (recorded_send (of_locked.the_field E g).row _ _ (of_locked.the_type E g).to_one
+    (struct_send (shape (of_locked.the_type E g)) (hold_send, (s, (keeping.the_field_send, (search (kept_entry.the_send, sendable, crosses) depth 20, tt))))))
 
 reader_send :
     IsSend (Reader.the_row Published.the_row View.the_row PublishedRule.the_row Heap.the_row well_formed.ghosts allocator.ghosts)
 reader_send = search (reader.the_send, published.the_sync, sendable, crosses) depth 20
 
 -- how the locked state is bound to its database
-abbrev bound_of : (E : RattleType) → bounds.Ghosts (LockedState.the_row E).Denot
-bound_of E = record { name = λ (o : owneds.LockedState E.Denot). o.state.name; last = λ (o : owneds.LockedState E.Denot). o.state.last }
+abbrev bound_of : (E : RattleType) (g : Ghosts E.Denot) → bounds.Ghosts (LockedState.the_row E g).Denot
+bound_of E g = record { name = λ (o : LockedView E.Denot). o.state.name; last = λ (o : LockedView E.Denot). o.state.last }
 
 pub client_send : (E : RattleType) (g : Ghosts E.Denot) → IsSend E → IsSend (Client.the_row E g)
 client_send E g s =
-    let owned : IsSend (LockedState.the_row E) = owned_send E s in
+    let owned : IsSend (LockedState.the_row E g) = owned_send E g s in
     view_send (of_client.the_row E g) _ _ _ _
     (recorded_send ((of_client.the_field E g).row) _ _ (of_client.the_type E g).to_one
     (struct_send (shape (of_client.the_type E g)) (
       heap.the_field_send,
       (
-        Arc-send _ (lock.the_send (LockedState.the_row E) (bound_of E) owned) (lock.the_sync (LockedState.the_row E) (bound_of E) owned),
+        Arc-send _ (lock.the_send (LockedState.the_row E g) (bound_of E g) owned) (lock.the_sync (LockedState.the_row E g) (bound_of E g) owned),
         (
           seat.the_send _ _ (option.the_send _ owned),
           (

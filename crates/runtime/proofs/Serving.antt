@@ -6,6 +6,7 @@ use Rattle.std.proofs.lemmas.List.Elements.{All-contains, All-from_recursion}
 use Rattle.std.specs.List.{AllByRecursion}
 use Rattle.std.specs.Option.{option_or}
 use mathlib.Core.List.{IsPrefix}
+use Rattle.std.specs.FinMap.{empty}
 use Rattle.kv_core.specs.Map.{Map, Agree}
 use Rattle.kv_core.specs.Range.{KeyRange, has_keys}
 use Rattle.kv_core.specs.declared.change.CommitRequest.{CommitRequest}
@@ -28,13 +29,15 @@ use Rattle.schedule.specs.Exact.{IsSerialAt}
 use Rattle.schedule.specs.Past.{Attempt, Open, Submission, is_changed}
 use Rattle.schedule.specs.Performed.{IsCommandStopped, IsPerformed, IsReadRefusal}
 use Rattle.schedule.specs.Turns.{AreDone, AreSubmitted, DidAttempt, IsOpenTransaction, fresh_request}
+use Rattle.schedule.specs.Holds.{no_stores}
+use Rattle.schedule.proofs.OwnStore.{holds_nothing}
 use Rattle.schedule.proofs.Composed.{holds_committed, open_served, performed_right, serial_all}
 use Rattle.schedule.proofs.Promised.{all_answered, exact_indexes}
 use Rattle.schedule.proofs.Submitting.{numbered_length}
 use Rattle.schedule.proofs.Turning.{done_append, open_changed, open_grown}
 use Rattle.runtime.specs.declared.log_entry.Entry.{Entry}
 use Rattle.runtime.specs.declared.performed.Performed.{Performed}
-use Rattle.runtime.specs.declared.trace.Trace.{Trace}
+use Rattle.runtime.specs.Traces.{Trace}
 use Rattle.runtime.specs.Logs.{requests_of, version_of, numbered_of, history_of, log_map, pipeline_of}
 use Rattle.runtime.specs.Logs.{logged_mutations, log_tier, submissions_of, committed_at}
 use Rattle.runtime.specs.Logs.{HoldsEach, IsHeadlineOf, IsSerialLog, IsWellFormedLog, IsOpenOver, IsServedLog}
@@ -61,11 +64,11 @@ legal_of config log law =
 
 -- the map at each version holds of each store what the accepted commands of its committed entries up to there give
 pub holds_of : (config : Config) (log : List Entry) → IsWellFormedLog config log → HoldsEach config log
-holds_of config log law v below = holds_committed (pipeline_of config log) (submissions_of config log) (legal_of config log law) law.submitted v below
+holds_of config log law v below = holds_committed empty (pipeline_of config log) (submissions_of config log) no_stores holds_nothing (legal_of config log law) law.submitted v below
 
 -- version order is a serial order
 pub serial_of : (config : Config) (log : List Entry) → IsWellFormedLog config log → IsSerialLog config log
-serial_of config log law = serial_all (pipeline_of config log) (submissions_of config log) (legal_of config log law) law.submitted
+serial_of config log law = serial_all empty (pipeline_of config log) (submissions_of config log) no_stores holds_nothing (legal_of config log law) law.submitted
 
 -- the requests were those of open transactions
 submitted_open : (maps : ℕ → Map) (reported last : ℕ) (subs : List Submission) (requests : List CommitRequest) → AreSubmitted maps reported last subs requests →
@@ -80,7 +83,7 @@ served_of config log law transaction (one, there, is) =
     let open_as = All-contains WasOpen (submissions_of config log) one
     (All-from_recursion WasOpen (submissions_of config log) (submitted_open (log_map config log) (version_of config log) config.start (submissions_of config log) (requests_of log) law.submitted)) there in
     subst (λ (t : Open). IsSerialAt (committed_at config log t.store t.read_version) t.attempts) is
-    (open_served (pipeline_of config log) (submissions_of config log) (legal_of config log law) law.submitted one.transaction open_as.0 open_as.1)
+    (open_served empty (pipeline_of config log) (submissions_of config log) no_stores holds_nothing (legal_of config log law) law.submitted one.transaction open_as.0 open_as.1)
   where
     WasOpen : Submission → Type 0
     WasOpen one = (request : CommitRequest) × IsOpenTransaction (log_map config log) (version_of config log) one.transaction request
@@ -216,7 +219,7 @@ answers_right config log ys old new trace command answer law begins over from ne
     let same : whole_map (log_tier config ys) old.read_version ≡ log_map config log old.read_version = same_map config log ys old.read_version begins seen from near in
     let here : IsPerformed trace.store (log_map config log) (λ range. MayRefuse (log_tier config ys) range old.read_version) command answer old new = performed_elsewhere trace.store (whole_map (log_tier config ys)) (log_map config log) _ command answer old new same performed in
     let grown = open_grown (log_map config log) (version_of config log) (opened old trace) old new (λ range. MayRefuse (log_tier config ys) range old.read_version) command answer over here in
-    let right = performed_right (pipeline_of config log) (submissions_of config log) (legal_of config log law) law.submitted (opened old trace) old new (λ v range. MayRefuse (log_tier config ys) range v) command answer over here in
+    let right = performed_right empty (pipeline_of config log) (submissions_of config log) no_stores holds_nothing (legal_of config log law) law.submitted (opened old trace) old new (λ v range. MayRefuse (log_tier config ys) range v) command answer over here in
     let version : new.read_version ≡ old.read_version = performed.ran.version in (
       subst (λ (o : Open). IsOpenTransaction (log_map config log) (version_of config log) o new) (λ i. record { store = trace.store; read_version = sym version i; attempts = sym (attempts_more trace.attempts.list (record { command = command; reply = answer })) i }) grown,
       elim right [

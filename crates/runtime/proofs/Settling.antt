@@ -12,7 +12,7 @@ use Rattle.runtime.specs.declared.log_entry.Entry.{Entry}
 use Rattle.runtime.specs.declared.open_transaction.OpenTransaction.{OpenTransaction}
 use Rattle.runtime.specs.declared.outcome.Outcome.{Outcome}
 use Rattle.runtime.specs.declared.outcome.Outcome.TheVariants as outcomes
-use Rattle.runtime.specs.declared.trace.Trace.{Trace}
+use Rattle.runtime.specs.Traces.{Trace}
 use Rattle.runtime.specs.Builds.{Commits, HasAsked, IndexIn, IsSubmission, IsTooMuch, IsWorkerRound}
 use Rattle.runtime.specs.Builds.{has_marked, own_of}
 use Rattle.runtime.specs.Clients.{Knowledge}

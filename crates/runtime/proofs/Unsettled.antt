@@ -16,7 +16,7 @@ use Rattle.runtime.specs.declared.open_transaction.OpenTransaction.{OpenTransact
 use Rattle.runtime.specs.declared.outcome.Outcome.TheVariants as outcomes
 use Rattle.runtime.specs.declared.submission_status.SubmissionStatus.{SubmissionStatus}
 use Rattle.runtime.specs.declared.submission_status.SubmissionStatus.TheVariants.{Committed, Refused}
-use Rattle.runtime.specs.declared.trace.Trace.{Trace}
+use Rattle.runtime.specs.Traces.{Trace}
 use Rattle.runtime.specs.declared.answers.RunError.{RunError}
 use Rattle.runtime.specs.declared.answers.RunError.TheVariants as runs
 use Rattle.runtime.specs.Builds.{HasAsked, IndexIn, IsBuilt, IsSubmission, IsTooMuch, IsWorkerRound}

@@ -11,6 +11,7 @@ use Rattle.cluster_core.specs.Configuration.{first_pipeline}
 use Rattle.cluster_core.specs.Decision.{committed, numbered, owners}
 use Rattle.cluster_core.specs.History.{map_at}
 use Rattle.cluster_core.specs.Roles.{PipelineState, all_handled, submit, submitted}
+use Rattle.std.specs.FinMap.{empty}
 use Rattle.kv_core.specs.Map.{Map}
 use Rattle.kv_core.specs.declared.change.CommitRequest.{CommitRequest}
 use Rattle.schedule.specs.Past.{Submission}
@@ -20,7 +21,7 @@ use Rattle.schedule.proofs.Turning.{open_elsewhere, open_fresh, open_later}
 use Rattle.schedule.proofs.Submitting.{submitted_more, submitted_later}
 use Rattle.runtime.specs.declared.log_entry.Entry.{Entry}
 use Rattle.runtime.specs.declared.performed.Performed.{Performed}
-use Rattle.runtime.specs.declared.trace.Trace.{Trace}
+use Rattle.runtime.specs.Traces.{Trace}
 use Rattle.runtime.specs.Logs.{requests_of, version_of, log_map, pipeline_of, submissions_from}
 use Rattle.runtime.specs.Logs.{submissions_of, IsOpenOver, is_same_submission, is_once, IsWellFormedLog, count_of, is_numbered}
 use Rattle.runtime.specs.Traces.{attempts_of, opened}
@@ -136,7 +137,7 @@ submitted_next config log e law is =
     let maps : List CommitRequest → ℕ → Map = λ qs v. map_at (committed config.resolver_splits (numbered config.start qs)) v in
     let subs : List Submission = submissions_of config log ++ next_of config log e ∷ [] in
     let base : AreSubmitted (maps (requests_of log ++ e.request ∷ [])) (version_of config log) config.start subs (requests_of log ++ e.request ∷ []) =
-    submitted_more (pipeline_of config log) (submissions_of config log) (version_of config log + 1) e.client (opened e.request e.trace) e.request law.submitted (omega arith) refl is in
+    submitted_more empty (pipeline_of config log) (submissions_of config log) (version_of config log + 1) e.client (opened e.request e.trace) e.request law.submitted (omega arith) refl is in
     let later : AreSubmitted (maps (requests_of log ++ e.request ∷ [])) next config.start subs (requests_of log ++ e.request ∷ []) =
     submitted_later (maps (requests_of log ++ e.request ∷ [])) (version_of config log) next config.start subs (requests_of log ++ e.request ∷ []) below base in
     subst (λ (ss : List Submission). AreSubmitted (log_map config (log ++ e ∷ [])) next config.start ss (requests_of (log ++ e ∷ []))) (sym (submissions_more config.start log e))

@@ -6,12 +6,12 @@ use Rattle.schedule.specs.declared.step.Command.TheVariants.{Build, Readable}
 use Rattle.schedule.specs.declared.reply.Reply.{Reply}
 use Rattle.schedule.specs.Past.{is_changed}
 use Rattle.runtime.specs.declared.performed.Performed.{Performed}
-use Rattle.runtime.specs.declared.trace.Trace.{Trace}
+use Rattle.runtime.specs.Traces.{Trace}
 use Rattle.runtime.specs.declared.open_transaction.OpenTransaction.{OpenTransaction}
 use Rattle.runtime.specs.declared.published_reads.EnterError.{EnterError}
 use Rattle.runtime.specs.declared.answers.CommandError.{CommandError}
 use Rattle.runtime.specs.declared.answers.CommitError.{CommitError}
-use Rattle.runtime.specs.declared.answers.CommitError.TheVariants.{Conflict, TooOld, VersionsExhausted, Unknown, Memory}
+use Rattle.runtime.specs.declared.answers.CommitError.TheVariants.{Conflict, TooOld, VersionsExhausted, Unknown, Memory, Closed}
 use Rattle.runtime.specs.declared.answers.Done.{Done}
 use Rattle.runtime.specs.declared.answers.RunError.{RunError}
 use Rattle.runtime.specs.declared.answers.RunError.TheVariants.{Refused, GaveUp}
@@ -122,6 +122,7 @@ refused_by mid new TooOld open_tx may a = inl a.1.last
 refused_by mid new VersionsExhausted open_tx may a = absurd (cc)
 refused_by mid new Unknown open_tx may a = absurd (cc)
 refused_by mid new Memory open_tx may a = absurd (cc)
+refused_by mid new Closed open_tx may a = absurd (cc)
 
 pub worker_round : (index : IndexIn) (round : Round) (old new : Knowledge) (open_tx : OpenTransaction) → HasWorked index round open_tx.trace → Commits old new open_tx true → IsWorkerRound index (Some round) old new
 worker_round index (Built records) old new open_tx worked commits = (open_tx, worked, commits)

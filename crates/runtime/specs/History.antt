@@ -1,5 +1,5 @@
 -- The rule of a history, and what its steps tell. The history is the log of entries, in version order.
-use Rattle.std.specs.Prelude.{ℕ, ◌≡◌, ◌==◌, true, List, [], ◌∷◌, ◌++◌, length, MatchBool}
+use Rattle.std.specs.Prelude.{ℕ, ◌≡◌, ◌==◌, Bool, true, List, [], ◌∷◌, ◌++◌, length, MatchBool}
 use Rattle.logbook.specs.Pages.{Cell, Step, View, Book, Named}
 use Rattle.cluster_core.specs.declared.answers.Config.{Config}
 use Rattle.runtime.specs.declared.log_entry.Entry.{Entry}
@@ -27,13 +27,14 @@ head_of book = record { tracked = true; key = 0; book = book }
 abbrev pub Adds : Step Entry → View Entry ℕ → ℕ → View Entry ℕ → Type 0
 Adds s v found w = MatchBool (found == s.old) (w.0 ≡ v.0 ++ s.ask ∷ []) (length w.0 ≡ found)
 
--- which database it is: its book, and its configuration
+-- which database it is: its book, its configuration, and whether what is committed in it is kept
 pub record Name : Type 0 where
   pub book : Book
   pub config : Config
+  pub kept : Bool
 
-abbrev pub database_name : Book → Config → Name
-database_name book config = record { book = book; config = config }
+abbrev pub database_name : Book → Config → Bool → Name
+database_name book config kept = record { book = book; config = config; kept = kept }
 
 -- a beginning of the history of one database, which some thread has seen
 pub record Prefix : Type 0 where

@@ -23,7 +23,7 @@ use Rattle.schedule.specs.Contract.{HoldsAt}
 use Rattle.schedule.specs.Standing.{commits_of, listed}
 use Rattle.schedule.specs.Commits.{committed_store}
 use Rattle.schedule.specs.Turns.{AreSubmitted, IsOpenTransaction}
-use Rattle.runtime.specs.declared.trace.Trace.{Trace}
+use Rattle.runtime.specs.Traces.{Trace}
 use Rattle.runtime.specs.declared.log_entry.Entry.{Entry}
 use Rattle.runtime.specs.Traces.{opened}
 

@@ -11,7 +11,7 @@ use Rattle.runtime.specs.declared.log_entry.Entry.{Entry}
 use Rattle.runtime.specs.declared.outcome.Outcome.{Outcome}
 use Rattle.runtime.specs.declared.outcome.Outcome.TheVariants.{Committed, Conflict, TooOld, VersionsExhausted}
 use Rattle.runtime.specs.declared.outcome.Outcome.TheVariants.{Unknown, Memory}
-use Rattle.runtime.specs.declared.trace.Trace.{Trace}
+use Rattle.runtime.specs.Traces.{Trace}
 use Rattle.runtime.specs.History.{Name, Prefix}
 use Rattle.runtime.specs.Logs.{HasEarlier, IsExhausted, cause_next, version_of}
 

@@ -15,7 +15,7 @@ use Rattle.runtime.specs.History.{Name, Prefix, database_name, log_prefix, submi
 
 -- Private: a name in the place of one that isn't known yet
 abbrev pub no_name : Name
-no_name = database_name (record { number = 0; log_name = 0; cells_name = 0 }) no_config
+no_name = database_name (record { number = 0; log_name = 0; cells_name = 0 }) no_config false
 
 -- Private: the view of a thread that hasn't seen the state
 abbrev pub newcomer : View

@@ -12,7 +12,7 @@ use Rattle.runtime.specs.declared.answers.CommandError.TheVariants.{Refused}
 use Rattle.runtime.specs.declared.answers.CommandError.TheVariants as commands
 use Rattle.runtime.specs.declared.answers.CommitError.{CommitError}
 use Rattle.runtime.specs.declared.answers.CommitError.TheVariants.{Conflict, TooOld, VersionsExhausted}
-use Rattle.runtime.specs.declared.answers.CommitError.TheVariants.{Unknown, Memory}
+use Rattle.runtime.specs.declared.answers.CommitError.TheVariants.{Unknown, Memory, Closed}
 use Rattle.runtime.specs.declared.answers.Done.{Done}
 use Rattle.runtime.specs.declared.answers.RunError.{RunError}
 use Rattle.runtime.specs.declared.answers.RunError.TheVariants as runs
@@ -72,6 +72,7 @@ may_follow repeatable TooOld = true
 may_follow repeatable VersionsExhausted = false
 may_follow repeatable Unknown = repeatable
 may_follow repeatable Memory = false
+may_follow repeatable Closed = false
 
 -- Private: how an attempt failed that its body gave up
 abbrev pub failure_by : {A : Type 0} → CommandError → Failure A
@@ -90,6 +91,7 @@ ended_by TooOld = ends.TooOld
 ended_by VersionsExhausted = ends.Other
 ended_by Unknown = ends.Unknown
 ended_by Memory = ends.Other
+ended_by Closed = ends.Other
 
 module _ {B A : Type 0} (store : ℕ) (did : B → Knowledge → Result A CommandError → Knowledge → B → Type 0) where
   -- a transaction began, and the body had this answer in it

@@ -13,7 +13,7 @@ use Rattle.schedule.specs.Past.{accepted}
 use Rattle.schedule.specs.Performed.{IsServed}
 use Rattle.runtime.specs.declared.log_entry.Entry.{Entry}
 use Rattle.runtime.specs.declared.performed.Performed.{Performed}
-use Rattle.runtime.specs.declared.trace.Trace.{Trace}
+use Rattle.runtime.specs.Traces.{Trace}
 use Rattle.runtime.specs.declared.published_reads.EnterError.{EnterError}
 use Rattle.runtime.specs.declared.published_reads.EnterError.TheVariants.{NotEntered, TooOld, Memory}
 use Rattle.runtime.specs.History.{Prefix}

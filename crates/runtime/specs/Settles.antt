@@ -8,7 +8,7 @@ use Rattle.runtime.specs.declared.answers.CommandError.TheVariants.{NotEntered}
 use Rattle.runtime.specs.declared.answers.RunError.{RunError}
 use Rattle.runtime.specs.declared.answers.RunError.TheVariants.{Refused, GaveUp}
 use Rattle.runtime.specs.declared.submission_status.SubmissionStatus.TheVariants as statuses
-use Rattle.runtime.specs.declared.trace.Trace.{Trace}
+use Rattle.runtime.specs.Traces.{Trace}
 use Rattle.runtime.specs.declared.worker_progress.Built.{Built as Totals}
 use Rattle.runtime.specs.declared.worker_progress.Progress.{Progress}
 use Rattle.runtime.specs.declared.worker_progress.Round.{Round}

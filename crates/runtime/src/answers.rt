@@ -85,10 +85,15 @@ pub enum CommitError {
     /// log is fixed, and whoever commits next finishes it.
     #[error("out of memory after the transaction was submitted")]
     Unknown,
-    /// Memory ran out before it was submitted, also in finishing an earlier submission, or after it
-    /// was refused and before that could be shown; or there was no open transaction.
+    /// Memory ran out before it was submitted, also in recording what it changes or in finishing an
+    /// earlier submission, or after it was refused and before that could be shown; or there was no
+    /// open transaction.
     #[error("out of memory")]
     Memory,
+    /// It wasn't submitted: the log failed, or memory ran out in an earlier commit, of which it
+    /// isn't known what became. The database has to be opened anew.
+    #[error("the database is closed")]
+    Closed,
 }
 
 /// Why a command of a transaction has no answer.

@@ -1,14 +1,16 @@
 // Clients, each with a reader of its own. Made by `db` for whoever opens a database; used by
 // `transaction`, `retrying` and `index_worker`.
 ghost use Rattle.std.specs.Prelude.{◌≡◌, ℕ, [], Some, None, IfOk, IfErr, IfSome, OnOk, OnErr, Ok};
-ghost use Rattle.std.specs.Prelude.{false, Err, ◌<◌, ◌≤◌, ◌^◌};
+ghost use Rattle.std.specs.Prelude.{true, false, Err, IsErrOf, MatchOption, ◌<◌, ◌≤◌, ◌^◌};
 ghost use Rattle.std.specs.Arc.{arc_value};
 ghost use Rattle.left_right.specs.Sides.{view as knowledge};
 ghost use mathlib.Core.List.{IsPrefix};
 ghost use Rattle.schedule.specs.Past.{is_changed};
 ghost use Rattle.runtime.specs.Clients.{IsFresh, IsSameTransaction, knows_that};
 ghost use Rattle.runtime.specs.History.{log_prefix};
-ghost use Rattle.runtime.specs.Commits.{Answers, IsDue, IsLogOf, commit_answer, unshown_answer};
+ghost use Rattle.runtime.specs.Commits.{Answers, IsDue, IsLogOf, IsStoredThen, answer_unless};
+ghost use Rattle.runtime.specs.Commits.{commit_answer, unshown_answer};
+ghost use Rattle.runtime.specs.Keeping.{IsSafe};
 ghost use Rattle.runtime.specs.Logs.{IsWellFormedLog};
 ghost use Rattle.runtime.specs.Serves.{IsAnswer, IsUnanswered};
 ghost use Rattle.runtime.specs.Publication.{knows};
@@ -17,7 +19,9 @@ ghost use Rattle.runtime.specs.Traces.{attempts_of, with_performed};
 
 use crate::answers::{CommitError, Done, Seen};
 use crate::commit_lock::{CommitLock, LockKey};
-use crate::critical_section::{End, LockedState, Told, critical_section};
+use crate::critical_section::{critical_section, look_there};
+use crate::handing_in::Told;
+use crate::locked_state::{End, LockedState};
 use crate::log_prefix::LogPrefix;
 use crate::open_transaction::OpenTransaction;
 use crate::outcome::Outcome;
@@ -28,6 +32,7 @@ use record_store::StoreNumber;
 use schedule::{Command, Known, Reply};
 use std::alloc::Global;
 use std::marker::Model;
+use std::snapshot::Snapshot;
 use std::sync::{Arc, Wait};
 
 /// A client, for one thread. It has one open transaction at most, and keeps its store open from one
@@ -156,6 +161,20 @@ impl<E: End> Client<E> {
         self.me.again()
     }
 
+    /// What keeps the database's log, as it is now, and the published log, where what is committed
+    /// is kept: each crash leaves what is kept of all entries of that log, and maybe more after it.
+    /// None where nothing is kept. It waits for those that commit.
+    ///
+    /// So it is of the client's own log where the published one begins with that.
+    pub fn look_at_log<R: Wait>(&mut self, rt: &R) -> Option<(Snapshot<E>, LogPrefix)>
+        ensures kept { MatchOption result (self.old.name.kept ≡ false) (λ seen.
+            (seen.1.name ≡ self.old.name) × IsSafe E.may_leave E.is_log self.old.name.config
+            seen.1.log seen.0.value) }
+        ensures same { self.new ≡ self.old }
+    {
+        look_there(rt, &self.lock, &mut self.key)
+    }
+
     /// Where the client takes memory.
     pub(crate) fn allocator(&self) -> Global {
         self.alloc
@@ -259,6 +278,8 @@ impl<E: End> Client<E> {
         ensures read_only { (open_tx : _) → self.old.begun ≡ Some open_tx →
             is_changed (attempts_of open_tx.trace.attempts.list) ≡ false → result.0 ≡ Ok Done.ReadOnly }
         ensures due { IsDue self.old result.1 }
+        ensures closed { IsErrOf result.0 CommitError.Closed → self.old.name.kept ≡ true }
+        ensures stored { IsStoredThen E.may_leave E.is_log result.0 }
         ensures log { IsPrefix self.old.log self.new.log }
         ensures same { self.new
             ≡ knows_that self.old.name self.new.log self.old.number self.new.last None }
@@ -280,6 +301,7 @@ impl<E: End> Client<E> {
         }
         let told = critical_section(
             rt,
+            self.alloc,
             &self.lock,
             &mut self.key,
             self.number,
@@ -292,10 +314,11 @@ impl<E: End> Client<E> {
             last,
             prefix,
             due,
+            is_closed,
         } = told;
         self.me = learnt(&self.me, &prefix);
         self.last = last;
-        (answer_to(outcome, prefix), due)
+        (answer_to(outcome, prefix, is_closed), due)
     }
 }
 
@@ -313,10 +336,17 @@ fn learnt(me: &LogPrefix, seen: &Option<LogPrefix>) -> LogPrefix
     }
 }
 
-/// The answer that an outcome is, with the log that shows it.
-fn answer_to(outcome: Outcome, prefix: Option<LogPrefix>) -> Result<Done, CommitError>
-    ensures { result ≡ commit_answer outcome prefix }
+/// The answer that an outcome is, with the log that shows it; or that the database is closed.
+fn answer_to(
+    outcome: Outcome,
+    prefix: Option<LogPrefix>,
+    is_closed: bool,
+) -> Result<Done, CommitError>
+    ensures { result ≡ answer_unless is_closed (commit_answer outcome prefix) }
 {
+    if is_closed {
+        return Err(CommitError::Closed);
+    }
     let Some(prefix) = prefix else {
         return unshown(outcome);
     };

@@ -1,8 +1,10 @@
-// The lock, over a slot of `atomic_table`. Used by `db`, `client` and `critical_section`.
+// The lock, over a slot of `atomic_table`. Used by `db`, `client`, `group_commit` and
+// `critical_section`.
 ghost use Rattle.std.specs.Prelude.{◌≡◌, [], ◌∷◌, IfOk, None, MatchOption, ℕ, ◌+◌, slice_index};
 ghost use Rattle.runtime.specs.CommitLocks.{MayReturn, number_for, opener, returned_with, taken_by};
 ghost use Rattle.runtime.specs.CommitLocks.{with_client, with_one_more};
 
+use crate::arrivals::Arrivals;
 use atomic_table::{Play, Seat, Split, Table, TableRule};
 use std::alloc::{AllocError, Global};
 use std::marker::PhantomData;
@@ -91,6 +93,7 @@ pub type LockKey<T> = Seat<Option<T>, KeyHolder<T>>;
 #[derive(Drop)]
 pub struct CommitLock<T: Lockable> {
     critical_section: Mutex<()>,
+    arrivals: Arrivals,
     table: Table<Option<T>, KeyHolder<T>, Snapshot<T>, LockRule<T>, Global>,
     ghost sized: { (table.shared.table_id.words ≡ 1) × (table.shared.table_id.slots ≡ 1) },
 }
@@ -110,6 +113,7 @@ impl<T: Lockable> CommitLock<T> {
             Ok((table, key)) => Ok((
                 CommitLock {
                     critical_section: Mutex::new(()),
+                    arrivals: Arrivals::new(),
                     table,
                 },
                 key,
@@ -132,6 +136,11 @@ impl<T: Lockable> CommitLock<T> {
     /// Waits for the lock, which is held as long as the guard.
     pub fn wait<R: Wait>(&self, rt: &R) -> MutexGuard<'_, ()> {
         self.critical_section.lock(rt)
+    }
+
+    /// Who comes to the lock, and who waits there.
+    pub fn arrivals(&self) -> &Arrivals {
+        &self.arrivals
     }
 
     /// Takes the value, unless another thread has it.

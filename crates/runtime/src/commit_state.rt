@@ -1,5 +1,5 @@
 // The commit side, under the commit lock: one request at a time, which the pipeline orders, the
-// history records and the publisher shows. Made by `db`, used by `critical_section`.
+// history records and the publisher shows. Made by `db`, used by `handing_in` and `group_commit`.
 ghost use Rattle.std.specs.Prelude.{◌≡◌, ℕ, ◌+◌, ◌-◌, ◌^◌, ◌<◌, [], length, slice_index};
 ghost use Rattle.std.specs.Prelude.{IfOk, IfErr, IfSome, IsNone, MatchResult, OnOk, Some, Err, ◌⊎◌};
 ghost use Rattle.std.specs.Bool.{OnTrue, OnFalse};
@@ -28,9 +28,7 @@ use std::marker::Model;
 use std::mem::replace;
 use std::sync::Wait;
 
-/// The locked state: the pipeline, and the writer's side of what it reported.
-///
-/// It isn't `Drop`: `close` ends it.
+/// The locked state: the pipeline, and the writer's side of what it reported. `close` ends it.
 pub struct CommitState {
     alloc: Global,
     pipeline: Pipeline,
@@ -73,8 +71,7 @@ impl Model for CommitState {
 }
 
 impl CommitState {
-    /// Has the roles handle what isn't reported yet. One entry at most is due, and each number that
-    /// was given is that of an entry in the log or of the one that is due.
+    /// Has the roles handle what isn't reported yet.
     fn report(&mut self)
         ensures same { self.new ≡ self.old }
         ensures waiting { IsOneDue self.old.log self.old.due }
@@ -146,8 +143,7 @@ impl CommitState {
         }
     }
 
-    /// Finishes what is in flight, and says whether nothing is then. Where memory runs out it has
-    /// come some way, and stays in flight.
+    /// Finishes what is in flight, as far as memory suffices, and says whether nothing is then.
     fn finish(&mut self) -> bool
         ensures name { self.new.name ≡ self.old.name }
         ensures published { self.new.published ≡ self.old.published }
@@ -251,14 +247,12 @@ impl CommitState {
         }
     }
 
-    /// Finishes what an earlier request left in flight. Then has every role handle the request of a
-    /// transaction over this log, adds its entry after the last one, and tells what became of it.
-    ///
-    /// The request gets the client's next number. It is refused with `TooOld` or
-    /// `VersionsExhausted` as the pipeline refuses it, and with `Memory` where memory runs out
-    /// before, also in finishing, where there is no such client, or where the transaction's log
-    /// isn't a beginning of the one here. Nothing is submitted then. After `Unknown` it stands
-    /// submitted, and its entry comes next: the next call finishes it.
+    /// Finishes what an earlier request left in flight. Then has every role handle the request of
+    /// a transaction over this log, adds its entry, with the client's next number, and tells what
+    /// became of it. `TooOld` and `VersionsExhausted` are as the pipeline refuses it; `Memory` is
+    /// told where memory runs out before, also in finishing, where there is no such client, or
+    /// where the transaction's log isn't a beginning of the one here. Nothing is submitted then.
+    /// After `Unknown` it stands submitted, and the next call finishes it.
     pub fn request(
         &mut self,
         client: u64,
@@ -340,6 +334,13 @@ impl CommitState {
         self.publisher.prefix()
     }
 
+    /// The log of all entries that were added.
+    pub fn whole(&self) -> LogPrefix
+        ensures { result ≡ log_prefix self.now.name self.now.log }
+    {
+        self.prefix.again()
+    }
+
     /// A new reader, which knows of which database the state is, unless each place is in use.
     pub fn reader(&mut self) -> Result<StateReader, AllocError>
         ensures same { self.new ≡ self.old }
@@ -362,13 +363,19 @@ impl CommitState {
         publisher.close(rt);
     }
 
-    /// The state of a new database, without entries, for as many clients as the configuration has
-    /// places. It is refused as `Pipeline::new` refuses the configuration.
-    pub fn open<R: Wait>(rt: &R, alloc: Global, config: &Config) -> Result<CommitState, ConfigError>
+    /// The state of a new database without entries, for as many clients as the configuration has
+    /// places, in which what is committed is kept, or isn't; refused as by `Pipeline::new`.
+    pub fn open<R: Wait>(
+        rt: &R,
+        alloc: Global,
+        config: &Config,
+        kept: bool,
+    ) -> Result<CommitState, ConfigError>
         ensures allowed { OnOk result (IsNone (config_refusal config.now)) }
         ensures refused { IfErr result (λ error.
             (error ≡ ConfigError.Memory) ⊎ (config_refusal config.now ≡ Some error)) }
         ensures config { IfOk result (λ state. state.name.config ≡ config.now) }
+        ensures kept { IfOk result (λ state. state.name.kept ≡ kept) }
         ensures empty { IfOk result (λ state.
             (state.published ≡ []) × (state.log ≡ []) × (state.due ≡ [])) }
         ensures clients { IfOk result (λ state. length state.last ≡ config.now.places) }
@@ -377,7 +384,7 @@ impl CommitState {
         let pipeline = Pipeline::new(alloc, config)?;
         let places = config.places as usize;
         let last = Vec::from_elem(alloc, 0u64, places)?;
-        let (publisher, head) = Publisher::open(rt, alloc, config, places)?;
+        let (publisher, head) = Publisher::open(rt, alloc, config, kept, places)?;
         let prefix = publisher.prefix();
         Ok(CommitState {
             alloc,

@@ -1,5 +1,5 @@
 // How a running database is opened. Called by `race`, applications, tests and measures.
-ghost use Rattle.std.specs.Prelude.{◌≡◌, ℕ, ◌+◌, ◌<◌, ◌≤◌, ◌⊎◌, [], None, Some, slice_index};
+ghost use Rattle.std.specs.Prelude.{◌≡◌, ℕ, ◌+◌, ◌<◌, ◌≤◌, ◌⊎◌, true, false, [], None, Some, slice_index};
 ghost use Rattle.std.specs.Prelude.{IfOk, IfErr, IfSome, IsNone, OnOk};
 ghost use Rattle.std.specs.Arc.{arc_value};
 ghost use Rattle.left_right.specs.Sides.{view as knowledge};
@@ -13,7 +13,7 @@ use crate::answers::OpenError;
 use crate::client::Client;
 use crate::commit_lock::{CommitLock, LockKey};
 use crate::commit_state::CommitState;
-use crate::critical_section::{End, LockedState};
+use crate::locked_state::{End, LockedState};
 use crate::log_prefix::LogPrefix;
 use crate::publication::StateReader;
 use crate::published_reads::TRIES;
@@ -56,9 +56,9 @@ fn another<E: End, R: Wait>(
     ensures refused { IfErr result (λ error.
         (error ≡ OpenError.NoPlace) ⊎ (error ≡ OpenError.Memory)) }
 {
-    let mut owned = lock.take(rt, key);
-    let reader = place(&mut owned.state);
-    lock.put(key, owned);
+    let (mut state, end, keeping, waiting) = lock.take(rt, key).into_parts();
+    let reader = place(&mut state);
+    lock.put(key, LockedState::of(state, end, keeping, waiting));
     let Some(reader) = reader else {
         return Err(OpenError::NoPlace);
     };
@@ -77,18 +77,19 @@ fn another<E: End, R: Wait>(
 fn clients<E: End, R: Wait>(
     rt: &R,
     alloc: Global,
-    end: E,
-    state: CommitState,
+    owned: LockedState<E>,
     places: usize,
 ) -> Result<Vec<Client<E>>, OpenError>
-    requires state { (state.published ≡ []) × ((client : ℕ) → slice_index state.last client ≡ 0) }
-    requires places { places ≤ state.name.config.places }
-    ensures clients { IfOk result (λ clients. clients.items ≡ fresh_clients state.name places) }
+    requires state { (owned.state.published ≡ [])
+        × ((client : ℕ) → slice_index owned.state.last client ≡ 0) }
+    requires places { places ≤ owned.state.name.config.places }
+    ensures clients { IfOk result (λ clients.
+        clients.items ≡ fresh_clients owned.state.name places) }
     ensures refused { IfErr result (λ error.
         (error ≡ OpenError.NoPlace) ⊎ (error ≡ OpenError.Memory)) }
 {
-    let prefix = state.prefix();
-    let (lock, mut key) = CommitLock::new(alloc, LockedState { state, end })?;
+    let prefix = owned.prefix();
+    let (lock, mut key) = CommitLock::new(alloc, owned)?;
     let lock = Arc::new(alloc, lock)?;
     let mut clients = Vec::new(alloc);
     for number in 0..places {
@@ -110,13 +111,38 @@ pub fn open<E: End, R: Wait>(
     config: &Config,
 ) -> Result<Vec<Client<E>>, OpenError>
     ensures clients { IfOk result (λ clients.
-        (name : Name) × (name.config ≡ config.now) × (clients.items ≡ fresh_clients name config.now.places)) }
+        (name : Name) × (name.config ≡ config.now)
+        × (clients.items ≡ fresh_clients name config.now.places) × (name.kept ≡ false)) }
     ensures allowed { OnOk result (IsNone (config_refusal config.now)) }
     ensures refused { IfErr result (λ error.
         (error ≡ OpenError.NoPlace) ⊎ (error ≡ OpenError.Memory)
         ⊎ ((why : ConfigRefusal) × (error ≡ OpenError.Config why)
         × (config_refusal config.now ≡ Some why))) }
 {
-    let state = CommitState::open(rt, alloc, config)?;
-    clients(rt, alloc, end, state, config.places as usize)
+    let state = CommitState::open(rt, alloc, config, false)?;
+    let owned = LockedState::unkept(state, end, Vec::new(alloc));
+    clients(rt, alloc, owned, config.places as usize)
+}
+
+/// Opens a new database, as `open` does, of which each committed transaction is kept before it is
+/// shown and answered, in a file whose log has no entry yet.
+pub fn open_kept<E: End, R: Wait>(
+    rt: &R,
+    alloc: Global,
+    end: E,
+    config: &Config,
+) -> Result<Vec<Client<E>>, OpenError>
+    requires { E.has end [] }
+    ensures clients { IfOk result (λ clients.
+        (name : Name) × (name.config ≡ config.now)
+        × (clients.items ≡ fresh_clients name config.now.places) × (name.kept ≡ true)) }
+    ensures allowed { OnOk result (IsNone (config_refusal config.now)) }
+    ensures refused { IfErr result (λ error.
+        (error ≡ OpenError.NoPlace) ⊎ (error ≡ OpenError.Memory)
+        ⊎ ((why : ConfigRefusal) × (error ≡ OpenError.Config why)
+        × (config_refusal config.now ≡ Some why))) }
+{
+    let state = CommitState::open(rt, alloc, config, true)?;
+    let owned = LockedState::kept(state, end, Vec::new(alloc));
+    clients(rt, alloc, owned, config.places as usize)
 }

@@ -10,7 +10,7 @@ ghost use Rattle.runtime.specs.Works.{Works};
 
 use crate::answers::{CommandError, RunError};
 use crate::client::Client;
-use crate::critical_section::End;
+use crate::locked_state::End;
 use crate::replies::{marked, part};
 use crate::retrying::{Body, Failure, attempt};
 use crate::transaction::Txn;

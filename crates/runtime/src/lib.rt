@@ -2,13 +2,18 @@
 #![tactic(auto)]
 
 mod answers;
+mod arrivals;
 mod client;
 mod commit_lock;
 mod commit_state;
 mod critical_section;
 mod db;
+mod group_commit;
+mod handing_in;
 mod in_flight;
 mod index_worker;
+mod keeping;
+mod locked_state;
 mod log_config;
 mod log_entry;
 mod log_prefix;
@@ -30,9 +35,10 @@ mod worker_progress;
 pub use answers::{CommandError, CommitError, Done, OpenError, RunError, Seen};
 pub use client::Client;
 pub use commit_state::CommitState;
-pub use critical_section::{End, Waits};
-pub use db::open;
+pub use db::{open, open_kept};
 pub use index_worker::{Gate, GatePoint, build_worker, build_worker_in};
+pub use keeping::{Keeping, NotKept};
+pub use locked_state::{End, Waits};
 pub use log_prefix::LogPrefix;
 pub use outcome::{HandedIn, Outcome};
 pub use performed::{Attempts, Performed};

@@ -89,6 +89,7 @@ impl Model for LogHead {
 pub struct LogPrefix {
     count: u64,
     log_config: LogConfig,
+    kept: bool,
     seen: Seen<Entry, u64, LogRule>,
 }
 
@@ -103,16 +104,18 @@ impl Model for LogPrefix {
 
     ghost coded = { Prim.hlevel (codes, entries.the_row.coded) };
 
-    ghost view = { λ f. log_prefix (database_name f.seen.book f.log_config) f.seen.log };
+    ghost view = { λ f. log_prefix (database_name f.seen.book f.log_config f.kept) f.seen.log };
 
     ghost invariant = { λ f. (f.count ≡ length f.seen.log) × IsWellFormedLog f.log_config f.seen.log };
 }
 
-/// A new history, which is empty, of a database of this configuration.
+/// A new history, which is empty, of a database of this configuration, in which what is committed
+/// is kept, or isn't.
 #[tactic(auto, using(crate::proofs::WellFormed::lawful_first))]
-pub fn opened(config: &Config) -> (LogHead, LogPrefix)
+pub fn opened(config: &Config, kept: bool) -> (LogHead, LogPrefix)
     ensures empty { result.1.log ≡ [] }
-    ensures name { (result.1.name.config ≡ config.now) × (result.1.name.book ≡ result.0) }
+    ensures name { (result.1.name.config ≡ config.now) × (result.1.name.book ≡ result.0)
+        × (result.1.name.kept ≡ kept) }
 {
     let log_config = LogConfig::of(config);
     prove!(log_config.start() <= u64::MAX);
@@ -125,6 +128,7 @@ pub fn opened(config: &Config) -> (LogHead, LogPrefix)
         LogPrefix {
             count: 0,
             log_config,
+            kept,
             seen,
         },
     )
@@ -146,6 +150,13 @@ impl LogPrefix {
         ensures well_formed { IsWellFormedLog self.now.name.config self.now.log }
     {
         self.log_config.start() + self.count
+    }
+
+    /// Whether what is committed in its database is kept.
+    pub fn is_kept(&self) -> bool
+        ensures { result ≡ self.now.name.kept }
+    {
+        self.kept
     }
 
     /// Whether servers that have pulled another log still tell the version of this one: it lies no
@@ -186,6 +197,7 @@ impl LogPrefix {
         LogPrefix {
             count: self.count,
             log_config: self.log_config.again(),
+            kept: self.kept,
             seen: self.seen.again(),
         }
     }

@@ -18,7 +18,8 @@ pub struct OpenTransaction {
 }
 
 impl OpenTransaction {
-    /// A transaction in a store at the version of a log, which has done nothing yet.
+    /// A transaction in a store at the version of a log, which has done nothing yet. What it
+    /// changes is recorded where that is kept.
     #[tactic(auto, using(crate::proofs::WellFormed::open_first))]
     pub fn new(alloc: Global, prefix: LogPrefix, store: StoreNumber) -> OpenTransaction
         ensures prefix { result.prefix ≡ prefix }
@@ -28,10 +29,11 @@ impl OpenTransaction {
         ensures at { result.transaction.read_version ≡ version_of prefix.name.config prefix.log }
     {
         let transaction = Transaction::begin(alloc, prefix.version());
+        let trace = Trace::begin(alloc, store, prefix.is_kept());
         OpenTransaction {
             prefix,
             transaction,
-            trace: Trace::new(store),
+            trace,
         }
     }
 }

@@ -1,5 +1,5 @@
 // What becomes of a request that a client hands in. Told by `commit_state`, handed on by
-// `critical_section`, and made an answer by `client`.
+// `handing_in`, and made an answer by `client`.
 ghost use Rattle.std.specs.Prelude.{◌≡◌, None};
 ghost use Rattle.runtime.specs.Outcomes.{outcome_by};
 ghost use Rattle.runtime.specs.declared.outcome.Outcome.TheVariants.{Memory};

@@ -154,7 +154,7 @@ fn perform_over(
         return Err(EnterError::TooOld);
     }
     prove!(prefix.version() <= u64::MAX);
-    match perform_open(alloc, command, trace.store, tx, &state.tier, known) {
+    match perform_open(alloc, command, trace.store(), tx, &state.tier, known) {
         Ok(reply) => {
             trace.add(command, &reply);
             Ok(reply)

@@ -47,14 +47,16 @@ impl Publisher {
         rt: &R,
         alloc: Global,
         config: &Config,
+        kept: bool,
         readers: usize,
     ) -> Result<(Publisher, LogHead), ConfigError>
         requires { (0 < readers) × (readers < 2 ^ 32) }
-        ensures made { IfOk result (λ r. r.0 ≡ publisher_view (database_name r.1 config.now) [] []) }
+        ensures made { IfOk result (λ r.
+            r.0 ≡ publisher_view (database_name r.1 config.now kept) [] []) }
         ensures refused { IfErr result (λ error.
             (error ≡ ConfigError.Memory) ⊎ (config_refusal config.now ≡ Some error)) }
     {
-        let (head, prefix) = opened(config);
+        let (head, prefix) = opened(config, kept);
         let first = Published::new(alloc, config, &prefix)?;
         let second = Published::new(alloc, config, &prefix)?;
         let writer = StateWriter::new(alloc, first, second, readers)?;

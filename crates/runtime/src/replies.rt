@@ -1,5 +1,5 @@
-// What replies tell: the answers of the calls that perform a command. Used by `transaction` and
-// `index_worker`.
+// What replies tell: the answers of the calls that perform a command. Used by `transaction`,
+// `index_worker` and `trace`.
 ghost use Rattle.std.specs.Prelude.{◌≡◌, ℕ, ℤ, Bool, List, Option, IfOk};
 ghost use Rattle.metadata.specs.declared.cells.Cell.{Cell};
 ghost use Rattle.planner.specs.Asked.{AskedPlan};
@@ -7,12 +7,23 @@ ghost use Rattle.kv_core.specs.Range.{KeyRange};
 ghost use Rattle.runtime.specs.Calls.{found_reply, marked_reply, part_reply, removed_reply};
 ghost use Rattle.runtime.specs.Calls.{saved_reply, told_result};
 ghost use Rattle.runtime.specs.Errors.{accepted_reply};
+ghost use Rattle.schedule.specs.Past.{is_accepted};
 
 use crate::answers::CommandError;
 use crate::published_reads::EnterError;
 use kv_core::KeyRange as BuiltRange;
 use metadata::Cells;
 use schedule::{Reply, Rows, SharedPlan};
+
+/// Whether the reply accepts its command.
+pub(crate) fn is_accepted(reply: &Reply) -> bool
+    ensures { result ≡ is_accepted reply.now }
+{
+    !matches!(
+        reply,
+        Reply::Refused(_) | Reply::Corrupt(_) | Reply::Stopped
+    )
+}
 
 /// The reply, where it accepts its command.
 pub(crate) fn accepted(reply: Result<Reply, EnterError>) -> Result<Reply, CommandError>

@@ -5,7 +5,7 @@ ghost use Rattle.runtime.specs.Runs.{failure_by, failure_ended};
 
 use crate::answers::{CommandError, CommitError, Done, RunError};
 use crate::client::Client;
-use crate::critical_section::End;
+use crate::locked_state::End;
 use crate::log_prefix::LogPrefix;
 use crate::transaction::Txn;
 use record_store::StoreNumber;
@@ -78,7 +78,7 @@ fn ended_of(error: &CommitError) -> Ended
         CommitError::Conflict { .. } => Ended::Conflict,
         CommitError::TooOld => Ended::TooOld,
         CommitError::Unknown => Ended::Unknown,
-        CommitError::VersionsExhausted | CommitError::Memory => Ended::Other,
+        CommitError::VersionsExhausted | CommitError::Memory | CommitError::Closed => Ended::Other,
     }
 }
 

@@ -1,6 +1,6 @@
 // Open transactions, with a call for each command. Used by `retrying`, and by `race`,
 // applications, tests and measures.
-ghost use Rattle.std.specs.Prelude.{◌≡◌, Some, None, false, Ok, IfErr, IfOk};
+ghost use Rattle.std.specs.Prelude.{◌≡◌, Some, None, true, false, Ok, IfErr, IfOk, IsErrOf};
 ghost use Rattle.std.specs.Borrow.{sem, RestsIfErr};
 ghost use mathlib.Core.List.{IsPrefix};
 ghost use Rattle.runtime.specs.contracts.client.Client.{the_row};
@@ -8,12 +8,12 @@ ghost use Rattle.schedule.specs.Past.{is_changed};
 ghost use Rattle.runtime.specs.Calls.{HasCalled, HasPerformed};
 ghost use Rattle.runtime.specs.Calls.{found_reply, removed_reply, saved_reply};
 ghost use Rattle.runtime.specs.Clients.{IsFresh, knows_that};
-ghost use Rattle.runtime.specs.Commits.{Answers};
+ghost use Rattle.runtime.specs.Commits.{Answers, IsStoredThen};
 ghost use Rattle.runtime.specs.Traces.{attempts_of};
 
 use crate::answers::{CommandError, CommitError, Done};
 use crate::client::Client;
-use crate::critical_section::End;
+use crate::locked_state::End;
 use crate::published_reads::EnterError;
 use crate::replies::{accepted, found, planned, removed, rows, saved, total};
 use metadata::Cells;
@@ -163,7 +163,8 @@ impl<E: End> Txn<'_, E> {
     /// cause. `ReadOnly` submits nothing. After `TooOld` it has learnt a log that is more than the
     /// window above the transaction's, and after `VersionsExhausted` one after which no version is
     /// left, or no number for this client. Each of these logs has all earlier submissions of this
-    /// client, also those of which `Unknown` was told. A number is given to the submission with
+    /// client, also those of which `Unknown` was told. Where what is committed is kept, all that is
+    /// kept of it is on the disk before. A number is given to the submission with
     /// `Committed`, `Conflict` and `Unknown`, and in no other case.
     pub fn commit<R: Wait>(self, rt: &R) -> Result<Done, CommitError>
         ensures answer { (open_tx : _) → self.entry.client.now.begun ≡ Some open_tx →
@@ -171,6 +172,9 @@ impl<E: End> Txn<'_, E> {
         ensures read_only { (open_tx : _) → self.entry.client.now.begun ≡ Some open_tx →
             is_changed (attempts_of open_tx.trace.attempts.list) ≡ false →
             result ≡ Ok Done.ReadOnly }
+        ensures closed { IsErrOf result CommitError.Closed
+            → self.entry.client.now.name.kept ≡ true }
+        ensures stored { IsStoredThen E.may_leave E.is_log result }
         ensures log { IsPrefix self.entry.client.now.log self.exit.0.now.log }
         ensures same { self.exit.0.now ≡ knows_that self.entry.client.now.name self.exit.0.now.log
             self.entry.client.now.number self.exit.0.now.last None }

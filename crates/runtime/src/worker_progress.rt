@@ -12,7 +12,7 @@ ghost use Rattle.runtime.specs.Settles.{TellsOne};
 
 use crate::answers::{CommandError, RunError};
 use crate::client::Client;
-use crate::critical_section::End;
+use crate::locked_state::End;
 use crate::log_prefix::LogPrefix;
 use crate::submission_status::SubmissionStatus;
 use std::alloc::Global;

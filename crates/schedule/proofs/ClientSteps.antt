@@ -1,10 +1,10 @@
 -- What a step of a client replies and leaves, over plain values.
-use Rattle.std.proofs.Common.{◌≡◌, ℕ, ◌<◌, ◌≤◌, true, false, cond, List, [], ◌∷◌, ◌++◌, length, get_or, refl, sym, ap, subst, subst₂, ◌∙◌, Option, Some, None, append-nil, arith}
+use Rattle.std.proofs.Common.{◌≡◌, ℕ, Bool, ◌<◌, ◌≤◌, true, false, cond, List, [], ◌∷◌, ◌++◌, length, get_or, refl, sym, ap, subst, subst₂, ◌∙◌, Option, Some, None, append-nil, arith}
 use Rattle.std.specs.Prelude.{slice_set}
 use Rattle.kv_core.specs.declared.change.CommitRequest.{CommitRequest}
 use Rattle.schedule.specs.declared.refusal.Refusal.TheVariants.{NoSuchStore, NoTransaction}
 use Rattle.cluster_core.specs.Cluster.{ClusterState, database_at, tier_of}
-use Rattle.cluster_core.specs.History.{IsLegal}
+use Rattle.cluster_core.specs.History.{IsLegalOver}
 use Rattle.cluster_core.specs.Roles.{history}
 use Rattle.cluster_core.specs.Refusing.{MayRefuse}
 use Rattle.record_store.specs.Layout.{is_store_number}
@@ -19,11 +19,11 @@ use Rattle.schedule.specs.declared.database.Unreported.{Unreported}
 use Rattle.schedule.specs.declared.transcript.CommitEntry.{CommitEntry}
 use Rattle.schedule.specs.Past.{Past, Attempt, Open, Submission, grown, open_of, submitted_in, is_accepted, submission, submitted_after}
 use Rattle.schedule.specs.Contract.{InTransaction, begin_reply, commit_reply}
-use Rattle.schedule.specs.Exact.{IsExactReply}
+use Rattle.schedule.specs.Exact.{IsReplyHeld}
 use Rattle.schedule.specs.Performed.{IsPerformed}
 use Rattle.schedule.specs.Standing.{cluster_stepped, commits_of}
 use Rattle.txn.specs.Reads.{seen}
-use Rattle.schedule.specs.Holds.{Stands}
+use Rattle.schedule.specs.Holds.{IsHeld, Stands}
 use Rattle.schedule.specs.Known.{IsKnown, SeesSerial}
 use Rattle.schedule.specs.Turns.{AreSubmitted, IsOpenTransaction, fresh_request}
 use Rattle.schedule.specs.Running.{ArePlaces, IsOpen, IsPlace, IsPerformedBy, IsStanding, IsStandingAt, IsStepped, IsSubmit, StandsAfter, submitted_by}
@@ -125,19 +125,19 @@ begin_missing d client number there none past s = record {
 -- ---- perform
 
 -- an open transaction sees a store, or none
-open_held : (c : ClusterState) (subs : List Submission) (open_now : Open) (transaction : OpenTransaction) → IsLegal (history c.pipeline) →
+open_held : (c : ClusterState) → IsHeld c.base → (subs : List Submission) (open_now : Open) (transaction : OpenTransaction) → IsLegalOver c.base (history c.pipeline) →
     AreSubmitted (database_at c) c.pipeline.reported c.pipeline.start subs c.pipeline.requests → IsOpen (database_at c) c.pipeline.reported open_now transaction → SeesSerial transaction.store (database_at c) transaction.transaction
-open_held c subs open_now transaction legal are is =
-    let sees = open_sees_serial c subs open_now transaction.transaction legal are is.done in (
+open_held c held subs open_now transaction legal are is =
+    let sees = open_sees_serial c held.0 held.1 subs legal are open_now transaction.transaction is.done in (
       sees.0,
       subst (λ number. Stands number (seen transaction.transaction (database_at c transaction.transaction.read_version)) sees.0) (sym is.store)
           (subst (λ v. Stands open_now.store (seen transaction.transaction (database_at c v)) sees.0) (sym is.done.at) sees.1),
     )
 
-pub perform_steps : (old new : Database) (client : ℕ) (command : Command) (reply : Reply) (found : Option OpenTransaction) (transaction after : OpenTransaction) → client < CLIENTS →
-    found ≡ get_or old.transactions.items client found → found ≡ Some transaction → IsLegal (history old.cluster.pipeline) → IsPerformedBy old.cluster command reply transaction after →
+pub perform_steps : (old new : Database) (stays_open : Bool) → (stays_open ≡ true → IsHeld old.cluster.base) → (client : ℕ) (command : Command) (reply : Reply) (found : Option OpenTransaction) (transaction after : OpenTransaction) → client < CLIENTS →
+    found ≡ get_or old.transactions.items client found → found ≡ Some transaction → IsLegalOver old.cluster.base (history old.cluster.pipeline) → IsPerformedBy old.cluster stays_open command reply transaction after →
     IsSet old new client (Some after) → IsStepped (Perform client command) reply old new
-perform_steps old new client command reply found transaction after there is opened legal performed set past s =
+perform_steps old new stays_open held client command reply found transaction after there is opened legal performed set past s =
     let maps = database_at old.cluster in
     let reported = old.cluster.pipeline.reported in
     let placed : IsPlace maps reported (open_of client past) (Some transaction) = subst (λ (o : Option OpenTransaction). IsPlace maps reported (open_of client past) o) opened (placed_at _ _ old client found there is s) in
@@ -150,12 +150,12 @@ perform_steps old new client command reply found transaction after there is open
       commands = performed.commands ∙ ap (λ cs. cs ++ cond (is_accepted reply) (command ∷ []) []) is_open.commands ∙ sym (accepted-append open_now.attempts attempt);
       known =
           subst (λ number. IsKnown number maps after.opened after.transaction) (sym performed.store)
-          (performed.known (open_held old.cluster (submitted_in past) open_now transaction legal s.submitted is_open));
+          (performed.known (λ yes. open_held old.cluster (held yes) (submitted_in past) open_now transaction legal s.submitted is_open));
     } in
     record {
       right = client_there client reply _ there
-          (subst (λ o. InTransaction o (λ now. IsExactReply old.cluster (commits_of old.cluster.pipeline (submitted_in past)) now command reply) reply) (sym e)
-          (command_right old.cluster (submitted_in past) open_now transaction.transaction after.transaction command reply legal s.submitted is_open.done here));
+          (subst (λ o. InTransaction o (λ now. IsReplyHeld old.cluster (commits_of old.cluster.pipeline (submitted_in past)) now command reply) reply) (sym e)
+          (λ before holds. command_right old.cluster before holds (submitted_in past) legal s.submitted open_now transaction.transaction after.transaction command reply is_open.done here));
       moved = λ more. sym set.cluster;
       added = [];
       grown = same_requests old new set.cluster;
@@ -173,7 +173,7 @@ perform_none old new client command found there is closed set past s =
     let attempt : Attempt = record { command = command; reply = Refused NoTransaction } in
     record {
       right = client_there client (Refused NoTransaction) _ there
-          (subst (λ o. InTransaction o (λ now. IsExactReply old.cluster (commits_of old.cluster.pipeline (submitted_in past)) now command (Refused NoTransaction)) (Refused NoTransaction)) (sym e) refl);
+          (subst (λ o. InTransaction o (λ now. IsReplyHeld old.cluster (commits_of old.cluster.pipeline (submitted_in past)) now command (Refused NoTransaction)) (Refused NoTransaction)) (sym e) refl);
       moved = λ more. sym set.cluster;
       added = [];
       grown = same_requests old new set.cluster;

@@ -9,7 +9,7 @@ use Rattle.kv_core.specs.Range.{KeyRange}
 use Rattle.kv_core.specs.Map.{Map, after_all}
 use Rattle.kv_core.specs.declared.change.CommitRequest.{CommitRequest}
 use Rattle.cluster_core.specs.Cluster.{ClusterState, database_at, tier_of}
-use Rattle.cluster_core.specs.History.{Entry, map_at, IsRising, IsLegal}
+use Rattle.cluster_core.specs.History.{Entry, map_over, IsRising, IsLegalOver}
 use Rattle.cluster_core.specs.Decision.{numbered, cause, is_committed}
 use Rattle.cluster_core.specs.Roles.{PipelineState, entries, history, outcome, told, told_of}
 use Rattle.cluster_core.specs.Serial.{after_commands, AllReplied, Replays, state_at}
@@ -24,25 +24,25 @@ use Rattle.schedule.specs.declared.transcript.CommitEntry.{CommitEntry}
 use Rattle.record_store.specs.Store.{Serial}
 use Rattle.schedule.specs.Serve.{effects}
 use Rattle.schedule.specs.Past.{Open, Submission, accepted}
-use Rattle.schedule.specs.Holds.{Stands}
+use Rattle.schedule.specs.Holds.{HoldsAll, Stands, Stores}
 use Rattle.schedule.specs.Reach.{opened_in, reach}
 use Rattle.schedule.specs.Performed.{IsServed, IsReadRefusal, IsPerformed}
-use Rattle.schedule.specs.Commits.{committed_store, is_of_upto, view}
+use Rattle.schedule.specs.Commits.{committed_over, is_of_upto, view_over}
 use Rattle.schedule.specs.Standing.{is_told, is_listed, listed, commit_entry, commits_of}
-use Rattle.schedule.specs.Contract.{EachRequest, HoldsAt, HoldsCommitted}
+use Rattle.schedule.specs.Contract.{EachRequest, HoldsCommitted, HoldsOver}
 use Rattle.schedule.specs.Exact.{commands_written, AreReads, IsExactReply, IsExactRequest, IsSerial, IsSerialAt}
 use Rattle.schedule.specs.Turns.{fresh_request, IsOpenTransaction, AreSubmitted}
 use Rattle.schedule.proofs.Turning.{attempts_effects, done_serve, done_writes, done_reads}
-use Rattle.schedule.proofs.OwnStore.{HoldsAll, Replied, Stores, Turn, all_after, holds_nothing, served, turned}
+use Rattle.schedule.proofs.OwnStore.{Replied, Turn, all_after, served, turned}
 
 -- told to be committed is what has no cause against it
 told_committed : (why : Option Rattle.cluster_core.specs.Decision.Cause) (version : ℕ) → is_told (told why version) ≡ is_none why
 told_committed None version = refl
 told_committed (Some why) version = refl
 
-module _ (p : PipelineState) (subs : List Submission) where
+module _ (base : Map) (p : PipelineState) (subs : List Submission) where
   abbrev maps : ℕ → Map
-  maps version = map_at (history p) version
+  maps version = map_over base (history p) version
 
   abbrev turn_of : Submission → List Turn
   turn_of one = (one.transaction.store, one.transaction.attempts) ∷ []
@@ -164,7 +164,7 @@ module _ (p : PipelineState) (subs : List Submission) where
 
   -- ---- the submissions of a cluster whose history is legal
 
-  module _ (legal : IsLegal (history p)) (are : AreSubmitted maps p.reported p.start subs p.requests) where
+  module _ (before : Stores) (held : HoldsAll base before) (legal : IsLegalOver base (history p)) (are : AreSubmitted maps p.reported p.start subs p.requests) where
     pairs_now : ArePairs (entries p) subs
     pairs_now = subst (λ last. ArePairs (numbered last p.requests) subs) (sym here)
         (pairs_from 0 subs p.requests (subst (λ last. AreSubmitted maps p.reported last subs p.requests) here are) (λ i. ap (slice_get subs) (none_added i)) (λ i. ap (slice_get (entries p)) (none_added i) ∙ ap (λ last. slice_get (numbered last p.requests) i) here))
@@ -175,47 +175,47 @@ module _ (p : PipelineState) (subs : List Submission) where
         here : p.start ≡ p.start + 0
         here = omega arith
 
-    one_replays : (entry : Entry) (one : Submission) → IsPair entry one → Replays HoldsAll Replied turned commands_of (history p) entry
+    one_replays : (entry : Entry) (one : Submission) → IsPair entry one → Replays HoldsAll Replied turned commands_of base (history p) entry
     one_replays entry one pair m stores holds agree =
         let open_as = pair.open_as in (
           subst (AllReplied HoldsAll Replied turned stores) (sym pair.commands) ((served maps one.transaction entry.request p.reported open_as m stores holds agree).0, tt),
           subst (λ turns. HoldsAll (after_all entry.request.mutations m) (after_commands HoldsAll Replied turned stores turns)) (sym pair.commands) (all_after maps one.transaction entry.request p.reported open_as m stores holds agree),
         )
 
-    each_replays : (es : List Entry) (ss : List Submission) → ArePairs es ss → AllByRecursion (Replays HoldsAll Replied turned commands_of (history p)) (passing es)
+    each_replays : (es : List Entry) (ss : List Submission) → ArePairs es ss → AllByRecursion (Replays HoldsAll Replied turned commands_of base (history p)) (passing es)
     each_replays [] [] pairs = tt
     each_replays [] (one ∷ ss) pairs = absurd pairs
     each_replays (entry ∷ es) [] pairs = absurd pairs
     each_replays (entry ∷ es) (one ∷ ss) (pair, pairs) = by_test (is_committed p.splits (entries p) entry) (one_replays entry one pair) (each_replays es ss pairs)
       where
-        by_test : (b : Bool) → Replays HoldsAll Replied turned commands_of (history p) entry → AllByRecursion (Replays HoldsAll Replied turned commands_of (history p)) (passing es) →
-            AllByRecursion (Replays HoldsAll Replied turned commands_of (history p)) (cond b (entry ∷ passing es) (passing es))
+        by_test : (b : Bool) → Replays HoldsAll Replied turned commands_of base (history p) entry → AllByRecursion (Replays HoldsAll Replied turned commands_of base (history p)) (passing es) →
+            AllByRecursion (Replays HoldsAll Replied turned commands_of base (history p)) (cond b (entry ∷ passing es) (passing es))
         by_test true now rest = (now, rest)
         by_test false now rest = rest
 
-    replays : All (Replays HoldsAll Replied turned commands_of (history p)) (history p)
-    replays = All-from_recursion (Replays HoldsAll Replied turned commands_of (history p)) (history p) (each_replays (entries p) subs pairs_now)
+    replays : All (Replays HoldsAll Replied turned commands_of base (history p)) (history p)
+    replays = All-from_recursion (Replays HoldsAll Replied turned commands_of base (history p)) (history p) (each_replays (entries p) subs pairs_now)
 
     rising : IsRising (history p)
     rising = rising-filter (is_committed p.splits (entries p)) (entries p) (rising-numbered p.start p.requests)
 
     -- what is there of each store at a version, by the history
     abbrev stores_at : ℕ → Stores
-    stores_at v = state_at HoldsAll Replied turned commands_of (λ number. None) (history p) v
+    stores_at v = state_at HoldsAll Replied turned commands_of before (history p) v
 
-    state_is : (number v : ℕ) → v ≤ p.reported → stores_at v number ≡ committed_store number (commits_of p subs) v
-    state_is number v below = states_same number v below (entries p) subs pairs_now (λ n. None) None refl
+    state_is : (number v : ℕ) → v ≤ p.reported → stores_at v number ≡ committed_over before number (commits_of p subs) v
+    state_is number v below = states_same number v below (entries p) subs pairs_now before (before number) refl
 
     -- HOLDS: the map at each version up to the last reported one holds of each store what is committed there, and nothing else
-    pub holds_committed : (v : ℕ) → v ≤ p.reported → HoldsAt (commits_of p subs) v (maps v)
+    pub holds_committed : (v : ℕ) → v ≤ p.reported → HoldsOver before (commits_of p subs) v (maps v)
     holds_committed v below =
-        let all = holds_at HoldsAll Replied turned commands_of (λ number. None) holds_nothing (history p) rising legal replays v in
+        let all = holds_at HoldsAll Replied turned commands_of base before held (history p) rising legal replays v in
         record { each = λ number lawful. subst (Stands number (maps v)) (state_is number v below) (all.each number lawful); nothing_else = all.nothing_else }
 
     -- SERIAL: each listed transaction has its replies just before its version
     serial_each : (es : List Entry) (ss : List Submission) → ArePairs es ss →
         AllByRecursion (λ (e : Entry). AllReplied HoldsAll Replied turned (stores_at (e.version - 1)) (commands_of e)) (passing es) →
-        AllByRecursion (λ (one : Submission). IsSerialAt (committed_store one.transaction.store (commits_of p subs) (one.version - 1)) one.transaction.attempts) (filter (is_listed p) ss)
+        AllByRecursion (λ (one : Submission). IsSerialAt (committed_over before one.transaction.store (commits_of p subs) (one.version - 1)) one.transaction.attempts) (filter (is_listed p) ss)
     serial_each [] [] pairs all = tt
     serial_each [] (one ∷ ss) pairs all = absurd pairs
     serial_each (entry ∷ es) [] pairs all = absurd pairs
@@ -227,7 +227,7 @@ module _ (p : PipelineState) (subs : List Submission) where
         X e = AllReplied HoldsAll Replied turned (stores_at (e.version - 1)) (commands_of e)
 
         Y : Submission → Type 0
-        Y s = IsSerialAt (committed_store s.transaction.store (commits_of p subs) (s.version - 1)) s.transaction.attempts
+        Y s = IsSerialAt (committed_over before s.transaction.store (commits_of p subs) (s.version - 1)) s.transaction.attempts
 
         here : nat_le one.version p.reported ≡ true → X entry → Y one
         here h x =
@@ -243,39 +243,39 @@ module _ (p : PipelineState) (subs : List Submission) where
         by_test true true is every rest = (here is every.0, rest every.1)
         by_test true false is every rest = rest every.1
 
-    pub serial_all : All (λ (one : Submission). IsSerialAt (committed_store one.transaction.store (commits_of p subs) (one.version - 1)) one.transaction.attempts) (listed p subs)
-    serial_all = All-from_recursion (λ (one : Submission). IsSerialAt (committed_store one.transaction.store (commits_of p subs) (one.version - 1)) one.transaction.attempts) (listed p subs)
+    pub serial_all : All (λ (one : Submission). IsSerialAt (committed_over before one.transaction.store (commits_of p subs) (one.version - 1)) one.transaction.attempts) (listed p subs)
+    serial_all = All-from_recursion (λ (one : Submission). IsSerialAt (committed_over before one.transaction.store (commits_of p subs) (one.version - 1)) one.transaction.attempts) (listed p subs)
         (serial_each (entries p) subs pairs_now
         (recursion_from_All (λ (e : Entry). AllReplied HoldsAll Replied turned (stores_at (e.version - 1)) (commands_of e)) (history p)
-        (replied_at HoldsAll Replied turned commands_of (λ number. None) holds_nothing (history p) rising legal replays)))
+        (replied_at HoldsAll Replied turned commands_of base before held (history p) rising legal replays)))
 
     -- OPEN: what an open transaction wrote and read, and what it sees
-    open_writes : (open_now : Open) (request : CommitRequest) → IsOpenTransaction maps p.reported open_now request → request.mutations ≡ commands_written open_now.store (maps open_now.read_version) (committed_store open_now.store (commits_of p subs) open_now.read_version) (accepted open_now.attempts)
+    open_writes : (open_now : Open) (request : CommitRequest) → IsOpenTransaction maps p.reported open_now request → request.mutations ≡ commands_written open_now.store (maps open_now.read_version) (committed_over before open_now.store (commits_of p subs) open_now.read_version) (accepted open_now.attempts)
     open_writes open_now request is =
-        done_writes open_now.store maps open_now.attempts (fresh_request open_now.read_version) request is.done (maps open_now.read_version) (committed_store open_now.store (commits_of p subs) open_now.read_version)
+        done_writes open_now.store maps open_now.attempts (fresh_request open_now.read_version) request is.done (maps open_now.read_version) (committed_over before open_now.store (commits_of p subs) open_now.read_version)
         (λ key h. ap (λ v. get (maps v) key) is.at) ((holds_committed open_now.read_version is.seen).each open_now.store is.store)
 
-    open_reads : (open_now : Open) (request : CommitRequest) → IsOpenTransaction maps p.reported open_now request → AreReads open_now.store (maps open_now.read_version) (committed_store open_now.store (commits_of p subs) open_now.read_version) open_now.attempts request.reads
+    open_reads : (open_now : Open) (request : CommitRequest) → IsOpenTransaction maps p.reported open_now request → AreReads open_now.store (maps open_now.read_version) (committed_over before open_now.store (commits_of p subs) open_now.read_version) open_now.attempts request.reads
     open_reads open_now request is =
-        let (ranges, have, are_these) = done_reads open_now.store maps open_now.attempts (fresh_request open_now.read_version) request is.done (maps open_now.read_version) (committed_store open_now.store (commits_of p subs) open_now.read_version)
+        let (ranges, have, are_these) = done_reads open_now.store maps open_now.attempts (fresh_request open_now.read_version) request is.done (maps open_now.read_version) (committed_over before open_now.store (commits_of p subs) open_now.read_version)
         (λ k h. ap (λ v. get (maps v) k) is.at) ((holds_committed open_now.read_version is.seen).each open_now.store is.store) in
         record { added = ranges; each = have; are = are_these }
 
     -- what it sees at its read version is its store, or none
-    pub open_sees : (open_now : Open) (request : CommitRequest) → IsOpenTransaction maps p.reported open_now request → Stands open_now.store (seen request (maps open_now.read_version)) (view (commits_of p subs) open_now)
+    pub open_sees : (open_now : Open) (request : CommitRequest) → IsOpenTransaction maps p.reported open_now request → Stands open_now.store (seen request (maps open_now.read_version)) (view_over before (commits_of p subs) open_now)
     open_sees open_now request is =
-        subst (Stands open_now.store (seen request (maps open_now.read_version))) (attempts_effects (committed_store open_now.store (commits_of p subs) open_now.read_version) open_now.attempts)
-        (done_serve open_now.store maps open_now.attempts (fresh_request open_now.read_version) request is.done (maps open_now.read_version) (committed_store open_now.store (commits_of p subs) open_now.read_version)
+        subst (Stands open_now.store (seen request (maps open_now.read_version))) (attempts_effects (committed_over before open_now.store (commits_of p subs) open_now.read_version) open_now.attempts)
+        (done_serve open_now.store maps open_now.attempts (fresh_request open_now.read_version) request is.done (maps open_now.read_version) (committed_over before open_now.store (commits_of p subs) open_now.read_version)
         (λ key h. ap (λ v. get (maps v) key) is.at) ((holds_committed open_now.read_version is.seen).each open_now.store is.store)).1
 
     -- SERVED: each accepted command of an open transaction has its reply at what the transaction sees
-    pub open_served : (open_now : Open) (request : CommitRequest) → IsOpenTransaction maps p.reported open_now request → IsSerialAt (committed_store open_now.store (commits_of p subs) open_now.read_version) open_now.attempts
+    pub open_served : (open_now : Open) (request : CommitRequest) → IsOpenTransaction maps p.reported open_now request → IsSerialAt (committed_over before open_now.store (commits_of p subs) open_now.read_version) open_now.attempts
     open_served open_now request is =
-        (done_serve open_now.store maps open_now.attempts (fresh_request open_now.read_version) request is.done (maps open_now.read_version) (committed_store open_now.store (commits_of p subs) open_now.read_version)
+        (done_serve open_now.store maps open_now.attempts (fresh_request open_now.read_version) request is.done (maps open_now.read_version) (committed_over before open_now.store (commits_of p subs) open_now.read_version)
         (λ key h. ap (λ v. get (maps v) key) is.at) ((holds_committed open_now.read_version is.seen).each open_now.store is.store)).0
 
     -- REQUESTS: each is that of its submission
-    requests_each : (last : ℕ) (ss : List Submission) (requests : List CommitRequest) → AreSubmitted maps p.reported last ss requests → EachRequest (IsExactRequest maps (commits_of p subs)) ss requests
+    requests_each : (last : ℕ) (ss : List Submission) (requests : List CommitRequest) → AreSubmitted maps p.reported last ss requests → EachRequest (IsExactRequest maps before (commits_of p subs)) ss requests
     requests_each last [] [] each = tt
     requests_each last [] (request ∷ requests) each = absurd each
     requests_each last (one ∷ ss) [] each = absurd each
@@ -288,49 +288,46 @@ module _ (p : PipelineState) (subs : List Submission) where
       requests_each (last + 1) ss requests each.1,
     )
 
-    pub requests_all : EachRequest (IsExactRequest maps (commits_of p subs)) subs p.requests
+    pub requests_all : EachRequest (IsExactRequest maps before (commits_of p subs)) subs p.requests
     requests_all = requests_each p.start subs p.requests are
 
     -- a reply that was right over every map is right by what the transaction sees
     pub performed_right : (open_now : Open) (request new : CommitRequest) (refuses : ℕ → KeyRange → Rattle.kv_core.specs.declared.snapshot.ReadError.ReadError → Type 0) (command : Command) (answer : Reply) →
         IsOpenTransaction maps p.reported open_now request → IsPerformed open_now.store maps (refuses request.read_version) command answer request new →
-        IsServed open_now.store (after_all (commands_written open_now.store (maps open_now.read_version) (committed_store open_now.store (commits_of p subs) open_now.read_version) (accepted open_now.attempts)) (maps open_now.read_version))
-        (commands_written open_now.store (maps open_now.read_version) (committed_store open_now.store (commits_of p subs) open_now.read_version) (accepted open_now.attempts)) (view (commits_of p subs) open_now) command answer
-        ⊎ IsReadRefusal (refuses open_now.read_version) (reach open_now.store (opened_in open_now.store (view (commits_of p subs) open_now)) command
-        (after_all (commands_written open_now.store (maps open_now.read_version) (committed_store open_now.store (commits_of p subs) open_now.read_version) (accepted open_now.attempts)) (maps open_now.read_version))) answer
+        IsServed open_now.store (after_all (commands_written open_now.store (maps open_now.read_version) (committed_over before open_now.store (commits_of p subs) open_now.read_version) (accepted open_now.attempts)) (maps open_now.read_version))
+        (commands_written open_now.store (maps open_now.read_version) (committed_over before open_now.store (commits_of p subs) open_now.read_version) (accepted open_now.attempts)) (view_over before (commits_of p subs) open_now) command answer
+        ⊎ IsReadRefusal (refuses open_now.read_version) (reach open_now.store (opened_in open_now.store (view_over before (commits_of p subs) open_now)) command
+        (after_all (commands_written open_now.store (maps open_now.read_version) (committed_over before open_now.store (commits_of p subs) open_now.read_version) (accepted open_now.attempts)) (maps open_now.read_version))) answer
     performed_right open_now request new refuses command answer is performed =
-        let base : maps request.read_version ≡ maps open_now.read_version = ap maps is.at in
-        let over = performed.ran.over (maps open_now.read_version) (λ key h. ap (λ m. get m key) base) in
-        let at = over.1 (view (commits_of p subs) open_now) (open_sees open_now request is) in
+        let same : maps request.read_version ≡ maps open_now.read_version = ap maps is.at in
+        let over = performed.ran.over (maps open_now.read_version) (λ key h. ap (λ m. get m key) same) in
+        let at = over.1 (view_over before (commits_of p subs) open_now) (open_sees open_now request is) in
         elim at.right [
-          | inl served ↦ inl (subst (λ before. IsServed open_now.store (after_all before (maps open_now.read_version)) before (view (commits_of p subs) open_now) command answer) (open_writes open_now request is) served)
-          | inr refused ↦ inr (subst (λ before. IsReadRefusal (refuses open_now.read_version) (reach open_now.store (opened_in open_now.store (view (commits_of p subs) open_now)) command (after_all before (maps open_now.read_version))) answer) (open_writes open_now request is)
-              (subst (λ v. IsReadRefusal (refuses v) (reach open_now.store (opened_in open_now.store (view (commits_of p subs) open_now)) command (seen request (maps open_now.read_version))) answer) is.at refused))
+          | inl served ↦ inl (subst (λ written. IsServed open_now.store (after_all written (maps open_now.read_version)) written (view_over before (commits_of p subs) open_now) command answer) (open_writes open_now request is) served)
+          | inr refused ↦ inr (subst (λ written. IsReadRefusal (refuses open_now.read_version) (reach open_now.store (opened_in open_now.store (view_over before (commits_of p subs) open_now)) command (after_all written (maps open_now.read_version))) answer) (open_writes open_now request is)
+              (subst (λ v. IsReadRefusal (refuses v) (reach open_now.store (opened_in open_now.store (view_over before (commits_of p subs) open_now)) command (seen request (maps open_now.read_version))) answer) is.at refused))
         ]
 
 -- ---- as the clauses of a schedule say it
 
-pub command_right : (c : ClusterState) (subs : List Submission) (open_now : Open) (request new : CommitRequest) (command : Command) (answer : Reply) →
-    IsLegal (history c.pipeline) → AreSubmitted (database_at c) c.pipeline.reported c.pipeline.start subs c.pipeline.requests → IsOpenTransaction (database_at c) c.pipeline.reported open_now request →
-    IsPerformed open_now.store (database_at c) (λ range. MayRefuse (tier_of c) range request.read_version) command answer request new →
-    IsExactReply c (commits_of c.pipeline subs) open_now command answer
-command_right c subs open_now request new command answer legal are is performed =
-    performed_right c.pipeline subs legal are open_now request new (λ version range. MayRefuse (tier_of c) range version) command answer is performed
+module _ (c : ClusterState) (before : Stores) (held : HoldsAll c.base before) (subs : List Submission) (legal : IsLegalOver c.base (history c.pipeline))
+    (are : AreSubmitted (database_at c) c.pipeline.reported c.pipeline.start subs c.pipeline.requests) where
+  pub command_right : (open_now : Open) (request new : CommitRequest) (command : Command) (answer : Reply) → IsOpenTransaction (database_at c) c.pipeline.reported open_now request →
+      IsPerformed open_now.store (database_at c) (λ range. MayRefuse (tier_of c) range request.read_version) command answer request new →
+      IsExactReply before c (commits_of c.pipeline subs) open_now command answer
+  command_right open_now request new command answer is performed =
+      performed_right c.base c.pipeline subs before held legal are open_now request new (λ version range. MayRefuse (tier_of c) range version) command answer is performed
 
--- what an open transaction sees at its read version is a store, or none
-pub open_sees_serial : (c : ClusterState) (subs : List Submission) (open_now : Open) (request : CommitRequest) → IsLegal (history c.pipeline) →
-    AreSubmitted (database_at c) c.pipeline.reported c.pipeline.start subs c.pipeline.requests → IsOpenTransaction (database_at c) c.pipeline.reported open_now request →
-    (serial : Serial) × Stands open_now.store (seen request (database_at c open_now.read_version)) serial
-open_sees_serial c subs open_now request legal are is = (view (commits_of c.pipeline subs) open_now, open_sees c.pipeline subs legal are open_now request is)
+  -- what an open transaction sees at its read version is a store, or none
+  pub open_sees_serial : (open_now : Open) (request : CommitRequest) → IsOpenTransaction (database_at c) c.pipeline.reported open_now request →
+      (serial : Serial) × Stands open_now.store (seen request (database_at c open_now.read_version)) serial
+  open_sees_serial open_now request is = (view_over before (commits_of c.pipeline subs) open_now, open_sees c.base c.pipeline subs before held legal are open_now request is)
 
-pub holds_all : (c : ClusterState) (subs : List Submission) → IsLegal (history c.pipeline) → AreSubmitted (database_at c) c.pipeline.reported c.pipeline.start subs c.pipeline.requests →
-    HoldsCommitted c (commits_of c.pipeline subs)
-holds_all c subs legal are version from upto = holds_committed c.pipeline subs legal are version upto
+  pub holds_all : HoldsCommitted before c (commits_of c.pipeline subs)
+  holds_all version from upto = holds_committed c.base c.pipeline subs before held legal are version upto
 
-pub is_serial : (c : ClusterState) (subs : List Submission) → IsLegal (history c.pipeline) → AreSubmitted (database_at c) c.pipeline.reported c.pipeline.start subs c.pipeline.requests →
-    IsSerial c (commits_of c.pipeline subs) subs
-is_serial c subs legal are = serial_all c.pipeline subs legal are
+  pub is_serial : IsSerial before c (commits_of c.pipeline subs) subs
+  is_serial = serial_all c.base c.pipeline subs before held legal are
 
-pub are_requests : (c : ClusterState) (subs : List Submission) → IsLegal (history c.pipeline) → AreSubmitted (database_at c) c.pipeline.reported c.pipeline.start subs c.pipeline.requests →
-    EachRequest (IsExactRequest (database_at c) (commits_of c.pipeline subs)) subs c.pipeline.requests
-are_requests c subs legal are = requests_all c.pipeline subs legal are
+  pub are_requests : EachRequest (IsExactRequest (database_at c) before (commits_of c.pipeline subs)) subs c.pipeline.requests
+  are_requests = requests_all c.base c.pipeline subs before held legal are

@@ -16,7 +16,7 @@ use Rattle.schedule.specs.declared.reply.Reply.TheVariants.{Planned}
 use Rattle.schedule.specs.declared.database.Database.{Database}
 use Rattle.schedule.specs.Past.{Past, Open, execution, grown, kept_plan, open_after, open_of, submitted_in}
 use Rattle.schedule.specs.Contract.{InTransaction, OfClient, WithPlan}
-use Rattle.schedule.specs.Exact.{IsExactReply}
+use Rattle.schedule.specs.Exact.{IsReplyHeld}
 use Rattle.schedule.specs.Standing.{commits_of}
 use Rattle.schedule.specs.Running.{AreKept, IsStanding, IsStepped, IsSteppedWith, IsUnplanned, Steps}
 use Rattle.schedule.proofs.ClientSteps.{none_added, other_places}
@@ -26,7 +26,7 @@ use Rattle.schedule.proofs.Places.{places_stay}
 abbrev IsRightWith : Database → Past → ℕ → Reply → Option AskedPlan → Type 0
 IsRightWith d past client reply kept =
     OfClient client reply (InTransaction (open_of client past)
-    (λ open_now. WithPlan kept (λ plan. IsExactReply d.cluster (commits_of d.cluster.pipeline (submitted_in past)) open_now (asks.Execute plan) reply) reply) reply)
+    (λ open_now. WithPlan kept (λ plan. IsReplyHeld d.cluster (commits_of d.cluster.pipeline (submitted_in past)) open_now (asks.Execute plan) reply) reply) reply)
 
 -- what the clients have open then
 abbrev OpenWith : Past → ℕ → Reply → Option AskedPlan → ℕ → Option Open
@@ -48,7 +48,7 @@ execute_kept plans client plan reply old new there is stepped past s kept =
 -- without a plan nothing is done
 pub execute_unplanned : (plans : List (Option AskedPlan)) (client : ℕ) (reply : Reply) (d : Database) → get_or plans client None ≡ None → IsUnplanned client reply d → IsSteppedWith plans (Execute client) reply d d
 execute_unplanned plans client reply d is unplanned past s kept = record {
-  right = (λ below. subst (λ k. InTransaction (open_of client past) (λ open_now. WithPlan k (λ plan. IsExactReply d.cluster (commits_of d.cluster.pipeline (submitted_in past)) open_now (asks.Execute plan) reply) reply) reply) (sym (none (ltb-true client CLIENTS below))) ((unplanned past s).0 below), (unplanned past s).1);
+  right = (λ below. subst (λ k. InTransaction (open_of client past) (λ open_now. WithPlan k (λ plan. IsReplyHeld d.cluster (commits_of d.cluster.pipeline (submitted_in past)) open_now (asks.Execute plan) reply) reply) reply) (sym (none (ltb-true client CLIENTS below))) ((unplanned past s).0 below), (unplanned past s).1);
   moved = λ more. refl;
   added = [];
   grown = none_added d.cluster.pipeline.requests;

@@ -2,12 +2,12 @@
 use Rattle.std.proofs.Common.{◌≡◌, ℕ, zero, suc, ◌+◌, ◌-◌, ◌∙◌, Bool, true, false, List, [], ◌∷◌, ◌++◌, min, arith, refl, sym, ap, subst, Option, if◌then◌else◌}
 use Rattle.std.specs.Prelude.{◌⊎◌}
 use Rattle.std.specs.List.{range_with_len}
-use Rattle.kv_core.specs.Map.{after_all}
+use Rattle.kv_core.specs.Map.{Map, after_all}
 use Rattle.kv_core.specs.declared.change.CommitRequest.{CommitRequest}
 use Rattle.cluster_core.specs.Cluster.{ClusterState, database_at, done_with_by, forget, maps_back, pull, server_at, servers_at, tier_of, with_pipeline}
-use Rattle.cluster_core.specs.Configuration.{first_cluster}
+use Rattle.cluster_core.specs.Configuration.{first_cluster_over}
 use Rattle.cluster_core.specs.Decision.{Owned, owners}
-use Rattle.cluster_core.specs.History.{map_at}
+use Rattle.cluster_core.specs.History.{map_over}
 use Rattle.cluster_core.specs.Roles.{PipelineState, append, done_with, history, outcome, report, resolve, submitted, whole}
 use Rattle.cluster_core.specs.Tier.{TierState, part}
 use Rattle.cluster_core.specs.declared.answers.Config.{Config}
@@ -17,7 +17,8 @@ use Rattle.schedule.specs.declared.step.Step.{Step}
 use Rattle.schedule.specs.declared.step.Step.TheVariants.{Begin, Perform, Execute, Commit, Abandon, Resolve, Log, Pull, Report, Lost, Settle}
 use Rattle.schedule.specs.declared.reply.Reply.{Reply}
 use Rattle.schedule.specs.declared.database.Database.{Database}
-use Rattle.schedule.specs.Commits.{committed_store, view}
+use Rattle.schedule.specs.Commits.{committed_over, view_over}
+use Rattle.schedule.specs.Holds.{HoldsAll, Stores}
 use Rattle.schedule.specs.Contract.{CommandRelation, IsReplyBy, client_of, report_to, reports_of, reports_reply}
 use Rattle.schedule.specs.Exact.{IsReplyTo, commands_written}
 use Rattle.schedule.specs.Past.{Past, Submission, accepted, submitted_in}
@@ -29,30 +30,31 @@ use Rattle.schedule.specs.Stepwise.{whole_cluster, whole_database}
 
 -- ---- the servers
 
-maps_same : (p : PipelineState) (owner : Owned) (version count : ℕ) → maps_back p owner version count ≡ maps_back (whole p) owner version count
-maps_same p owner version zero = refl
-maps_same p owner version (suc count) = ap (λ maps. part owner (map_at (history p) version) ∷ maps) (maps_same p owner (version - 1) count)
+maps_same : (base : Map) (p : PipelineState) (owner : Owned) (version count : ℕ) → maps_back base p owner version count ≡ maps_back base (whole p) owner version count
+maps_same base p owner version zero = refl
+maps_same base p owner version (suc count) = ap (λ maps. part owner (map_over base (history p) version) ∷ maps) (maps_same base p owner (version - 1) count)
 
-servers_same : (p : PipelineState) (os : List Owned) (clocks : List ℕ) → servers_at p os clocks ≡ servers_at (whole p) os clocks
-servers_same p [] clocks = refl
-servers_same p (owner ∷ os) [] = refl
-servers_same p (owner ∷ os) (clock ∷ clocks) =
-    ap (λ maps. record { version = clock; maps = maps } ∷ servers_at p os clocks) (maps_same p owner clock (min p.window (clock - p.start)))
-    ∙ ap (λ others. server_at (whole p) owner clock ∷ others) (servers_same p os clocks)
+servers_same : (base : Map) (p : PipelineState) (os : List Owned) (clocks : List ℕ) → servers_at base p os clocks ≡ servers_at base (whole p) os clocks
+servers_same base p [] clocks = refl
+servers_same base p (owner ∷ os) [] = refl
+servers_same base p (owner ∷ os) (clock ∷ clocks) =
+    ap (λ maps. record { version = clock; maps = maps } ∷ servers_at base p os clocks) (maps_same base p owner clock (min p.window (clock - p.start)))
+    ∙ ap (λ others. server_at base (whole p) owner clock ∷ others) (servers_same base p os clocks)
 
 tier_same : (c : ClusterState) → tier_of c ≡ tier_of (whole_cluster c)
-tier_same c = ap (λ servers. record { splits = c.splits; window = c.pipeline.window; servers = servers }) (servers_same c.pipeline (owners c.splits) c.pulled)
+tier_same c = ap (λ servers. record { splits = c.splits; window = c.pipeline.window; servers = servers }) (servers_same c.base c.pipeline (owners c.splits) c.pulled)
 
 -- ---- replies
 
--- the exact reply to a command, where the servers are these
+-- the exact reply to a command, for all stores that the base holds, where the servers are these
 abbrev ExactUnder : TierState → CommandRelation
 ExactUnder tier c commits open_now command reply =
-    let number = open_now.store in
-    let seen = view commits open_now in
-    let base = database_at c open_now.read_version in
-    let before = commands_written number base (committed_store number commits open_now.read_version) (accepted open_now.attempts) in
-    IsServed number (after_all before base) before seen command reply ⊎ IsReadRefusal (λ range. MayRefuse tier range open_now.read_version) (reach number (opened_in number seen) command (after_all before base)) reply
+    (before : Stores) → HoldsAll c.base before →
+    (let number = open_now.store in
+    let seen = view_over before commits open_now in
+    let at_read = database_at c open_now.read_version in
+    let written = commands_written number at_read (committed_over before number commits open_now.read_version) (accepted open_now.attempts) in
+    IsServed number (after_all written at_read) written seen command reply ⊎ IsReadRefusal (λ range. MayRefuse tier range open_now.read_version) (reach number (opened_in number seen) command (after_all written at_read)) reply)
 
 reports_same : (p : PipelineState) (subs : List Submission) (versions : List ℕ) → reports_of p subs versions ≡ reports_of (whole p) subs versions
 reports_same p subs [] = refl
@@ -134,14 +136,14 @@ nothing_pulled start (clock ∷ clocks) = ap (min (clock - start)) (nothing_pull
     min_zero n = omega arith
 
 -- at the start there is nothing to forget
-pub first_forgets : (config : Config) (database : Database) → IsFirst config database → database.cluster ≡ forget database.cluster
-first_forgets config database first =
-    let c = first_cluster config in
+pub first_forgets : (base : Map) (config : Config) (database : Database) → IsFirst (first_cluster_over base config) database → database.cluster ≡ forget database.cluster
+first_forgets base config database first =
+    let c = first_cluster_over base config in
     let none : done_with c.pipeline ≡ 0 = omega arith in
     first.cluster
     ∙ ap (λ n. record c { pipeline = record c.pipeline { forgotten = n } }) (sym (nothing_pulled config.start c.pulled) ∙ ap (λ n. done_with_by config.start n c.pulled) (sym none))
     ∙ sym (ap forget first.cluster)
 
-pub first_whole : (config : Config) (database : Database) → IsFirst config database → IsFirst config (whole_database database)
-first_whole config database first =
+pub first_whole : (base : Map) (config : Config) (database : Database) → IsFirst (first_cluster_over base config) database → IsFirst (first_cluster_over base config) (whole_database database)
+first_whole base config database first =
     record { cluster = ap whole_cluster first.cluster; places = first.places; unreported = first.unreported; commits = first.commits }

@@ -18,7 +18,8 @@ use Rattle.cluster_core.proofs.Ownership.{meets_within-gives}
 use Rattle.record_store.specs.Layout.{is_store_number, store_prefix}
 use Rattle.record_store.proofs.Stores.{apart}
 use Rattle.schedule.specs.declared.transcript.CommitEntry.{CommitEntry}
-use Rattle.schedule.specs.Commits.{committed_store}
+use Rattle.schedule.specs.Commits.{committed_over}
+use Rattle.schedule.specs.Holds.{Stores}
 use Rattle.schedule.specs.Contract.{EachRequest}
 use Rattle.schedule.specs.Isolated.{IsIsolated, store_of}
 use Rattle.schedule.specs.Past.{Submission}
@@ -167,11 +168,11 @@ module _ (subs : List Submission) where
         within = All-reverse IsWithin (until (entry.version - 1) es) (kept_each IsWithin (λ (e : Entry). nat_le e.version (entry.version - 1)) es all)
 
   -- each entry is within its store where its request is within the reach of its submission's commands
-  module _ (maps : ℕ → Map) (reported start : ℕ) (commits : List CommitEntry) where
+  module _ (maps : ℕ → Map) (reported start : ℕ) (at_first : Stores) (commits : List CommitEntry) where
     abbrev own_store_at : ℕ → Submission → Type 0
     own_store_at version one = store_of subs version ≡ one.transaction.store
 
-    each_within : (n : ℕ) (ss : List Submission) (requests : List CommitRequest) → AreSubmitted maps reported (start + n) ss requests → EachRequest (IsRightRequest commits) ss requests →
+    each_within : (n : ℕ) (ss : List Submission) (requests : List CommitRequest) → AreSubmitted maps reported (start + n) ss requests → EachRequest (IsRightRequest at_first commits) ss requests →
         ((i : ℕ) (one : Submission) → slice_get ss i ≡ Some one → own_store_at (start + (n + i) + 1) one) → AllByRecursion IsWithin (numbered (start + n) requests)
     each_within n [] [] are right at = tt
     each_within n [] (request ∷ requests) are right at = absurd are
@@ -180,9 +181,9 @@ module _ (subs : List Submission) where
       record {
         lawful = subst (λ k. is_store_number k ≡ true) (sym here) are.0.open_as.store;
         reads = λ key inside. subst (λ k. BeginsWith (store_prefix k) key) (sym here)
-            (read_within one.transaction.store key (committed_store one.transaction.store commits one.transaction.read_version) one.transaction.attempts (right.0.reads key inside));
+            (read_within one.transaction.store key (committed_over at_first one.transaction.store commits one.transaction.read_version) one.transaction.attempts (right.0.reads key inside));
         writes = λ key inside. subst (λ k. BeginsWith (store_prefix k) key) (sym here)
-            (written_within one.transaction.store key (committed_store one.transaction.store commits one.transaction.read_version) one.transaction.attempts (right.0.writes key inside));
+            (written_within one.transaction.store key (committed_over at_first one.transaction.store commits one.transaction.read_version) one.transaction.attempts (right.0.writes key inside));
       },
       subst (λ last. AllByRecursion IsWithin (numbered last requests)) (sym next)
           (each_within (suc n) ss requests (subst (λ last. AreSubmitted maps reported last ss requests) next are.1) right.1
@@ -201,8 +202,8 @@ module _ (subs : List Submission) where
         shift : (i : ℕ) → n + suc i ≡ suc n + i
         shift i = omega arith
 
-pub isolated_in : (maps : ℕ → Map) (commits : List CommitEntry) (p : PipelineState) (subs : List Submission) → AreSubmitted maps p.reported p.start subs p.requests → EachRequest (IsRightRequest commits) subs p.requests → IsIsolated p subs
-isolated_in maps commits p subs are right owner entry there =
+pub isolated_in : (maps : ℕ → Map) (at_first : Stores) (commits : List CommitEntry) (p : PipelineState) (subs : List Submission) → AreSubmitted maps p.reported p.start subs p.requests → EachRequest (IsRightRequest at_first commits) subs p.requests → IsIsolated p subs
+isolated_in maps at_first commits p subs are right owner entry there =
     same_agreement subs owner (store_of subs entry.version) (entries p) entry within
     (All-contains (IsWithin subs) (entries p) entry (All-from_recursion (IsWithin subs) (entries p) within) there) (same_number (store_of subs entry.version))
   where
@@ -214,5 +215,5 @@ isolated_in maps commits p subs are right owner entry there =
 
     within : AllByRecursion (IsWithin subs) (entries p)
     within = subst (λ last. AllByRecursion (IsWithin subs) (numbered last p.requests)) (sym here)
-        (each_within subs maps p.reported p.start commits 0 subs p.requests (subst (λ last. AreSubmitted maps p.reported last subs p.requests) here are) right
+        (each_within subs maps p.reported p.start at_first commits 0 subs p.requests (subst (λ last. AreSubmitted maps p.reported last subs p.requests) here are) right
         (λ i one is. subst (λ k. store_of subs (p.start + k + 1) ≡ one.transaction.store) (none i) (store_here p.start subs i one (submitted_versions maps p.reported p.start subs p.requests are) is)))

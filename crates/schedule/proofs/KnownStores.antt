@@ -1,5 +1,5 @@
 -- A store that a command left open stands open for the next one.
-use Rattle.std.proofs.Common.{◌≡◌, ℕ, ℤ, Bool, List, Option, Some, None, Result, Ok, Err, sym, subst}
+use Rattle.std.proofs.Common.{◌≡◌, ℕ, ℤ, Bool, true, false, cond, List, Option, Some, None, Result, Ok, Err, refl, sym, subst}
 use Rattle.std.specs.Prelude.{IfOk}
 use Rattle.kv_core.specs.Map.{Map}
 use Rattle.kv_core.specs.declared.change.CommitRequest.{CommitRequest}
@@ -20,7 +20,7 @@ use Rattle.record_store.specs.Store.{Store}
 use Rattle.record_store.proofs.Reopening.{answered_stays, opened_there_stands, read_stays}
 use Rattle.schedule.specs.declared.reply.Reply.{Reply}
 use Rattle.schedule.specs.Executions.{IsExecution, found, other_schema, unreadable, IsQueried, bad, unserved, planned_so}
-use Rattle.schedule.specs.Known.{IsKnown, SeesSerial}
+use Rattle.schedule.specs.Known.{IsKnown, SeesSerial, StaysKnown}
 
 -- no store is known
 pub none_known : (number : ℕ) (maps : ℕ → Map) (known : Option Opened) (tx : CommitRequest) → known ≡ None → IsKnown number maps known tx
@@ -30,6 +30,12 @@ none_known number maps known tx none = subst (λ o. IsKnown number maps o tx) (s
 pub some_known : (number : ℕ) (maps : ℕ → Map) (known : Option Opened) (opened : Opened) (tx : CommitRequest) → known ≡ Some opened → IsKnown number maps known tx →
     (opened.prefix ≡ store_prefix number) × StandsThere maps opened tx
 some_known number maps known opened tx is known_is = subst (λ o. IsKnown number maps o tx) is known_is
+
+-- one that stays open where stores may, and where the transaction saw a store or none before
+pub stays_known : (stays_open : Bool) (number : ℕ) (maps : ℕ → Map) (known kept : Option Opened) (old new : CommitRequest) → kept ≡ cond stays_open known None → StaysKnown number maps known old new →
+    (stays_open ≡ true → SeesSerial number maps old) → IsKnown number maps kept new
+stays_known true number maps known kept old new is stays sees = subst (λ o. IsKnown number maps o new) (sym is) (stays (sees refl))
+stays_known false number maps known kept old new is stays sees = none_known number maps kept new is
 
 -- one was opened anew
 pub there_opened : {E : Type 0} (number : ℕ) (maps : ℕ → Map) (old new : CommitRequest) (r : Result Opened E) → IfOk r (λ store. IsOpened maps store old new) → IfOk r (λ store. store.prefix ≡ store_prefix number) →

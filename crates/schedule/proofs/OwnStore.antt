@@ -13,21 +13,12 @@ use Rattle.tuple_codec.specs.Subspace.{BeginsWith}
 use Rattle.record_store.specs.Store.{Serial}
 use Rattle.record_store.proofs.Stores.{apart, held_within}
 use Rattle.schedule.specs.Past.{Attempt, Open, accepted}
-use Rattle.schedule.specs.Holds.{NothingElse, Stands}
+use Rattle.schedule.specs.Holds.{HoldsAll, Stands, Stores, no_stores}
 use Rattle.schedule.specs.Exact.{commands_written, IsSerialAt}
 use Rattle.schedule.specs.Turns.{fresh_request, IsOpenTransaction}
 use Rattle.schedule.proofs.Rightly.{written_by}
 use Rattle.schedule.proofs.Turning.{after_attempts, done_serve, done_writes}
 use Rattle.schedule.proofs.Within.{written_within}
-
--- what is there of each store, by its number
-abbrev pub Stores : Type 0
-Stores = ℕ → Serial
-
--- a map has of each store what is there, and nothing else
-pub record HoldsAll (m : Map) (stores : Stores) : Type 0 where
-  pub each : (number : ℕ) → is_store_number number ≡ true → Stands number m (stores number)
-  pub nothing_else : NothingElse m
 
 -- the attempts of a transaction, and its store
 abbrev pub Turn : Type 0
@@ -42,7 +33,7 @@ abbrev pub turned : Stores → Turn → Stores
 turned stores turn = λ number. cond (turn.0 == number) (after_attempts (stores number) turn.1) (stores number)
 
 -- an empty map holds no store
-pub holds_nothing : HoldsAll empty (λ number. None)
+pub holds_nothing : HoldsAll empty no_stores
 holds_nothing = record { each = λ number lawful bytes. get-empty key_cmp (store_prefix number ++ bytes); nothing_else = λ key none. get-empty key_cmp key }
 
 -- ---- one transaction

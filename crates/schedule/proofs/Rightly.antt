@@ -13,9 +13,9 @@ use Rattle.kv_core.specs.Range.{KeyRange, contains, covers, is_same_range, with_
 use Rattle.kv_core.specs.declared.change.CommitRequest.{CommitRequest}
 use Rattle.kv_core.specs.declared.change.Mutation.{Mutation}
 use Rattle.kv_core.specs.declared.change.WriteError.{WriteError}
-use Rattle.cluster_core.specs.declared.answers.Config.{Config}
 use Rattle.kv_core.specs.declared.snapshot.ReadError.{ReadError}
-use Rattle.cluster_core.specs.Cluster.{ClusterState, database_at, tier_of}
+use Rattle.cluster_core.specs.Cluster.{ClusterState, database_at, pull, tier_of, with_pipeline}
+use Rattle.cluster_core.specs.Roles.{append, report, resolve}
 use Rattle.cluster_core.specs.Refusing.{MayRefuse}
 use Rattle.txn.specs.Runs.{with_ranges}
 use Rattle.metadata.specs.declared.index.State.{State}
@@ -42,12 +42,13 @@ use Rattle.schedule.specs.Serve as serve
 use Rattle.schedule.specs.Serve.{IsMeant, IsReply, IsReplyWith, effect, serial_line}
 use Rattle.schedule.specs.Past.{Attempt, Open, Past, Submission, accepted, is_accepted, kept_plan, open_of, submitted_in}
 use Rattle.schedule.specs.Performed.{IsLimited, IsRefusalAmong, IsServed}
-use Rattle.schedule.specs.Commits.{committed_store, view}
-use Rattle.schedule.specs.Standing.{cluster_after, commits_of, listed}
+use Rattle.schedule.specs.Holds.{HoldsAll, Stores}
+use Rattle.schedule.specs.Commits.{committed_over, view_over}
+use Rattle.schedule.specs.Standing.{cluster_from, cluster_stepped, commits_of, is_done, is_reported, is_submitted, listed, with_next}
 use Rattle.schedule.specs.Keys.{MayReadKey, MayWriteKey}
 use Rattle.schedule.specs.Reach.{added_by, opened_in, reach, writes}
-use Rattle.schedule.specs.Contract.{AreSerialBy, EachReply, EachRequest, HasReplies, InTransaction, IsReplyBy, IsSerialBy, WithPlan, attempted}
-use Rattle.schedule.specs.Exact.{HasExactReplies, HaveAdded, IsExactReply, IsExactRequest, IsSerial, attempt_writes, commands_written}
+use Rattle.schedule.specs.Contract.{AreSerialBy, CommandRelation, EachReply, EachRequest, HasReplies, InTransaction, IsReplyBy, IsSerialBy, WithPlan, attempted}
+use Rattle.schedule.specs.Exact.{HasExactReplies, HaveAdded, IsExactReply, IsExactRequest, IsReplyHeld, IsSerial, attempt_writes, commands_written}
 use Rattle.schedule.specs.Right.{IsOverLimit, IsRightReply, IsRightRequest, MayHaveRead, MayHaveWritten}
 use Rattle.schedule.proofs.Reached.{added_begin}
 use Rattle.schedule.proofs.ReachReads.{reach_added, reach_reads}
@@ -103,8 +104,8 @@ served_right number m before seen command answer is = by_limit (write_all_refusa
         let met = limit_met (MayWriteKey number seen command) before (writes number m seen command) error (reach_writes number m seen command) is_limit in
         inr (record { limit = error; told = says; key = met.0; written = met.1; met = met.2 })
 
-reply_right : (c : ClusterState) (commits : List CommitEntry) (open_now : Open) (command : Command) (answer : Reply) → IsExactReply c commits open_now command answer → IsRightReply c commits open_now command answer
-reply_right c commits open_now command answer is = elim is [
+reply_right : (at_first : Stores) (c : ClusterState) (commits : List CommitEntry) (open_now : Open) (command : Command) (answer : Reply) → IsExactReply at_first c commits open_now command answer → IsRightReply at_first c commits open_now command answer
+reply_right at_first c commits open_now command answer is = elim is [
   | inl served ↦ elim (served_right open_now.store (after_all before base) before seen command answer served) [
     | inl says ↦ inl says
     | inr limit ↦ inr (inr limit)
@@ -114,13 +115,13 @@ reply_right c commits open_now command answer is = elim is [
 ]
   where
     seen : Serial
-    seen = view commits open_now
+    seen = view_over at_first commits open_now
 
     base : Map
     base = database_at c open_now.read_version
 
     before : List Mutation
-    before = commands_written open_now.store base (committed_store open_now.store commits open_now.read_version) (accepted open_now.attempts)
+    before = commands_written open_now.store base (committed_over at_first open_now.store commits open_now.read_version) (accepted open_now.attempts)
 
 -- ---- replies to steps
 
@@ -135,42 +136,77 @@ with_plan (Some plan) reply A B so is = so plan is
 abbrev CommitsThen : ClusterState → Past → List CommitEntry
 CommitsThen c past = commits_of c.pipeline (submitted_in past)
 
-step_right : (c : ClusterState) (past : Past) (step : Step) (reply : Reply) → IsReplyBy IsExactReply c past step reply → IsReplyBy IsRightReply c past step reply
-step_right c past (Begin client store) reply is = is
-step_right c past (Perform client command) reply is = (
-  λ below. in_transaction (open_of client past) reply (λ open_now. IsExactReply c (CommitsThen c past) open_now command reply) (λ open_now. IsRightReply c (CommitsThen c past) open_now command reply)
-      (λ open_now. reply_right c (CommitsThen c past) open_now command reply) (is.0 below),
+-- a reply that is right by one relation on commands is right by another one that follows there
+step_by : (A B : CommandRelation) (c : ClusterState) (past : Past) (step : Step) (reply : Reply) →
+    ((open_now : Open) (command : Command) → A c (CommitsThen c past) open_now command reply → B c (CommitsThen c past) open_now command reply) → IsReplyBy A c past step reply → IsReplyBy B c past step reply
+step_by A B c past (Begin client store) reply so is = is
+step_by A B c past (Perform client command) reply so is = (
+  λ below. in_transaction (open_of client past) reply (λ open_now. A c (CommitsThen c past) open_now command reply) (λ open_now. B c (CommitsThen c past) open_now command reply)
+      (λ open_now. so open_now command) (is.0 below),
   is.1,
 )
-step_right c past (Execute client) reply is = (
+step_by A B c past (Execute client) reply so is = (
   λ below. in_transaction (open_of client past) reply
-      (λ open_now. WithPlan (kept_plan client past) (λ plan. IsExactReply c (CommitsThen c past) open_now (asks.Execute plan) reply) reply)
-      (λ open_now. WithPlan (kept_plan client past) (λ plan. IsRightReply c (CommitsThen c past) open_now (asks.Execute plan) reply) reply)
-      (λ open_now. with_plan (kept_plan client past) reply (λ plan. IsExactReply c (CommitsThen c past) open_now (asks.Execute plan) reply)
-      (λ plan. IsRightReply c (CommitsThen c past) open_now (asks.Execute plan) reply)
-      (λ plan. reply_right c (CommitsThen c past) open_now (asks.Execute plan) reply)) (is.0 below),
+      (λ open_now. WithPlan (kept_plan client past) (λ plan. A c (CommitsThen c past) open_now (asks.Execute plan) reply) reply)
+      (λ open_now. WithPlan (kept_plan client past) (λ plan. B c (CommitsThen c past) open_now (asks.Execute plan) reply) reply)
+      (λ open_now. with_plan (kept_plan client past) reply (λ plan. A c (CommitsThen c past) open_now (asks.Execute plan) reply)
+      (λ plan. B c (CommitsThen c past) open_now (asks.Execute plan) reply)
+      (λ plan. so open_now (asks.Execute plan))) (is.0 below),
   is.1,
 )
-step_right c past (Commit client) reply is = is
-step_right c past (Abandon client) reply is = is
-step_right c past (Resolve r) reply is = is
-step_right c past (Log l) reply is = is
-step_right c past (Pull s) reply is = is
-step_right c past Report reply is = is
-step_right c past Lost reply is = is
-step_right c past Settle reply is = is
+step_by A B c past (Commit client) reply so is = is
+step_by A B c past (Abandon client) reply so is = is
+step_by A B c past (Resolve r) reply so is = is
+step_by A B c past (Log l) reply so is = is
+step_by A B c past (Pull s) reply so is = is
+step_by A B c past Report reply so is = is
+step_by A B c past Lost reply so is = is
+step_by A B c past Settle reply so is = is
 
-replies_each : (config : Config) (requests : List CommitRequest) (past : Past) (steps : List Step) (replies : List Reply) →
-    EachReply (λ past step reply. IsReplyBy IsExactReply (cluster_after config requests past) past step reply) past steps replies →
-    EachReply (λ past step reply. IsReplyBy IsRightReply (cluster_after config requests past) past step reply) past steps replies
-replies_each config requests past [] [] each = tt
-replies_each config requests past [] (reply ∷ replies) each = absurd each
-replies_each config requests past (step ∷ steps) [] each = absurd each
-replies_each config requests past (step ∷ steps) (reply ∷ replies) each =
-    (step_right (cluster_after config requests past) past step reply each.0, replies_each config requests ((step, reply) ∷ past) steps replies each.1)
+replies_by : (A B : CommandRelation) (first : ClusterState) (requests : List CommitRequest) →
+    ((past : Past) (open_now : Open) (command : Command) (reply : Reply) → let c = cluster_from first requests past in A c (CommitsThen c past) open_now command reply → B c (CommitsThen c past) open_now command reply) →
+    (past : Past) (steps : List Step) (replies : List Reply) →
+    EachReply (λ past step reply. IsReplyBy A (cluster_from first requests past) past step reply) past steps replies →
+    EachReply (λ past step reply. IsReplyBy B (cluster_from first requests past) past step reply) past steps replies
+replies_by A B first requests so past [] [] each = tt
+replies_by A B first requests so past [] (reply ∷ replies) each = absurd each
+replies_by A B first requests so past (step ∷ steps) [] each = absurd each
+replies_by A B first requests so past (step ∷ steps) (reply ∷ replies) each =
+    (step_by A B (cluster_from first requests past) past step reply (λ open_now command. so past open_now command reply) each.0, replies_by A B first requests so ((step, reply) ∷ past) steps replies each.1)
 
-pub replies_right : (config : Config) (requests : List CommitRequest) (steps : List Step) (replies : List Reply) → HasExactReplies config requests steps replies → HasReplies IsRightReply config requests steps replies
-replies_right config requests steps replies each = replies_each config requests [] steps replies each
+pub replies_right : (at_first : Stores) (first : ClusterState) (requests : List CommitRequest) (steps : List Step) (replies : List Reply) → HasExactReplies at_first first requests steps replies → HasReplies (IsRightReply at_first) first requests steps replies
+replies_right at_first first requests steps replies each =
+    replies_by (IsExactReply at_first) (IsRightReply at_first) first requests (λ past open_now command reply. reply_right at_first (cluster_from first requests past) (CommitsThen (cluster_from first requests past) past) open_now command reply) [] steps replies each
+
+-- ---- the base
+
+chosen_base : (b : Bool) (c d : ClusterState) → d.base ≡ c.base → (cond b d c).base ≡ c.base
+chosen_base true c d same = same
+chosen_base false c d same = refl
+
+-- no step changes the base
+pub stepped_base : (requests : List CommitRequest) (step : Step) (reply : Reply) (c : ClusterState) → (cluster_stepped requests step reply c).base ≡ c.base
+stepped_base requests (Begin client store) reply c = refl
+stepped_base requests (Perform client command) reply c = refl
+stepped_base requests (Execute client) reply c = refl
+stepped_base requests (Commit client) reply c = chosen_base (is_submitted reply) c (with_pipeline (with_next requests c.pipeline) c) refl
+stepped_base requests (Abandon client) reply c = refl
+stepped_base requests (Resolve r) reply c = chosen_base (is_done reply) c (with_pipeline (resolve r c.pipeline) c) refl
+stepped_base requests (Log l) reply c = chosen_base (is_done reply) c (with_pipeline (append l c.pipeline) c) refl
+stepped_base requests (Pull s) reply c = chosen_base (is_done reply) c (pull s c) refl
+stepped_base requests Report reply c = chosen_base (is_reported reply) c (with_pipeline (report c.pipeline) c) refl
+stepped_base requests Lost reply c = chosen_base (is_reported reply) c (with_pipeline (report c.pipeline) c) refl
+stepped_base requests Settle reply c = refl
+
+pub cluster_base : (first : ClusterState) (requests : List CommitRequest) (past : Past) → (cluster_from first requests past).base ≡ first.base
+cluster_base first requests [] = refl
+cluster_base first requests (event ∷ past) = stepped_base requests event.0 event.1 (cluster_from first requests past) ∙ cluster_base first requests past
+
+-- replies that are exact for all stores that the base holds are so for these
+pub replies_held : (at_first : Stores) (first : ClusterState) (requests : List CommitRequest) (steps : List Step) (replies : List Reply) → HoldsAll first.base at_first → HasReplies IsReplyHeld first requests steps replies →
+    HasExactReplies at_first first requests steps replies
+replies_held at_first first requests steps replies holds each =
+    replies_by IsReplyHeld (IsExactReply at_first) first requests (λ past open_now command reply is. is at_first (subst (λ m. HoldsAll m at_first) (sym (cluster_base first requests past)) holds)) [] steps replies each
 
 -- ---- version order
 
@@ -178,19 +214,19 @@ serial_meant : (serial : Serial) (attempts : List Attempt) → IsSerialBy IsRepl
 serial_meant serial [] is = tt
 serial_meant serial (attempt ∷ attempts) is = (λ yes_accepted. meant serial attempt.command attempt.reply (is.0 yes_accepted), serial_meant (attempted serial attempt) attempts is.1)
 
-pub serial_right : (c : ClusterState) (commits : List CommitEntry) (submissions : List Submission) → IsSerial c commits submissions → AreSerialBy IsMeant c commits submissions
-serial_right c commits submissions is =
+pub serial_right : (at_first : Stores) (c : ClusterState) (commits : List CommitEntry) (submissions : List Submission) → IsSerial at_first c commits submissions → AreSerialBy IsMeant at_first c commits submissions
+serial_right at_first c commits submissions is =
     All-from_recursion Meant (listed c.pipeline submissions) (each (listed c.pipeline submissions) (recursion_from_All Exact (listed c.pipeline submissions) is))
   where
     Exact : Submission → Type 0
-    Exact s = IsSerialBy IsReply (committed_store s.transaction.store commits (s.version - 1)) s.transaction.attempts
+    Exact s = IsSerialBy IsReply (committed_over at_first s.transaction.store commits (s.version - 1)) s.transaction.attempts
 
     Meant : Submission → Type 0
-    Meant s = IsSerialBy IsMeant (committed_store s.transaction.store commits (s.version - 1)) s.transaction.attempts
+    Meant s = IsSerialBy IsMeant (committed_over at_first s.transaction.store commits (s.version - 1)) s.transaction.attempts
 
     each : (ss : List Submission) → AllByRecursion Exact ss → AllByRecursion Meant ss
     each [] all = tt
-    each (s ∷ ss) all = (serial_meant (committed_store s.transaction.store commits (s.version - 1)) s.transaction.attempts all.0, each ss all.1)
+    each (s ∷ ss) all = (serial_meant (committed_over at_first s.transaction.store commits (s.version - 1)) s.transaction.attempts all.0, each ss all.1)
 
 -- ---- requests
 
@@ -260,8 +296,8 @@ written_by number serial m (attempt ∷ attempts) key inside =
         ]
     by_test false not_accepted behind beside says = inr (subst (λ s. MayHaveWritten number s attempts key) (ap (λ b. cond b after serial) (sym not_accepted)) (beside says))
 
-request_right : (maps : ℕ → Map) (commits : List CommitEntry) (one : Submission) (request : CommitRequest) → IsExactRequest maps commits one request → IsRightRequest commits one request
-request_right maps commits one request is = record {
+request_right : (maps : ℕ → Map) (at_first : Stores) (commits : List CommitEntry) (one : Submission) (request : CommitRequest) → IsExactRequest maps at_first commits one request → IsRightRequest at_first commits one request
+request_right maps at_first commits one request is = record {
   read_version = is.read_version;
   reads = λ key inside.
       elim (kept_covers is.reads.added [] key (ap (λ rs. covers rs key) (sym is.reads.are) ∙ inside)) [
@@ -272,7 +308,7 @@ request_right maps commits one request is = record {
 }
   where
     seen : Serial
-    seen = committed_store one.transaction.store commits one.transaction.read_version
+    seen = committed_over at_first one.transaction.store commits one.transaction.read_version
 
     base : Map
     base = maps one.transaction.read_version
@@ -280,8 +316,8 @@ request_right maps commits one request is = record {
     nothing : false ≡ true → ⊥
     nothing bad = cc
 
-pub requests_right : (maps : ℕ → Map) (commits : List CommitEntry) (submissions : List Submission) (requests : List CommitRequest) → EachRequest (IsExactRequest maps commits) submissions requests → EachRequest (IsRightRequest commits) submissions requests
-requests_right maps commits [] [] each = tt
-requests_right maps commits [] (request ∷ requests) each = absurd each
-requests_right maps commits (one ∷ submissions) [] each = absurd each
-requests_right maps commits (one ∷ submissions) (request ∷ requests) each = (request_right maps commits one request each.0, requests_right maps commits submissions requests each.1)
+pub requests_right : (maps : ℕ → Map) (at_first : Stores) (commits : List CommitEntry) (submissions : List Submission) (requests : List CommitRequest) → EachRequest (IsExactRequest maps at_first commits) submissions requests → EachRequest (IsRightRequest at_first commits) submissions requests
+requests_right maps at_first commits [] [] each = tt
+requests_right maps at_first commits [] (request ∷ requests) each = absurd each
+requests_right maps at_first commits (one ∷ submissions) [] each = absurd each
+requests_right maps at_first commits (one ∷ submissions) (request ∷ requests) each = (request_right maps at_first commits one request each.0, requests_right maps at_first commits submissions requests each.1)

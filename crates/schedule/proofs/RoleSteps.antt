@@ -33,7 +33,7 @@ role_nothing roles role may there is = sym ((λ i. cond (lt-ltb role roles there
 -- where only clocks of resolvers, logs and servers move, all stands as before
 pub other_clocks : {c : ClusterState} {opens : ℕ → Option Open} {submissions : List Submission} {transactions : List (Option OpenTransaction)} {waiting : List Unreported} {entries : List CommitEntry} →
     (resolved logged pulled : List ℕ) → All (λ clock. clock ≤ submitted c.pipeline) pulled → IsStandingAt c opens submissions transactions waiting entries →
-    IsStandingAt (record { pipeline = record c.pipeline { resolved = resolved; logged = logged }; splits = c.splits; pulled = pulled }) opens submissions transactions waiting entries
+    IsStandingAt (record c { pipeline = record c.pipeline { resolved = resolved; logged = logged }; pulled = pulled }) opens submissions transactions waiting entries
 other_clocks resolved logged pulled within s = record {
   begun = s.begun;
   given = s.given;

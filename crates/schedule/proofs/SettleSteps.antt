@@ -138,9 +138,8 @@ not_all_past clock last others not_all each = by_test (nat_lt clock last) refl
 pub settled_so : (c : ClusterState) → AreInOrder c.pipeline → All (λ clock. clock ≤ submitted c.pipeline) c.pulled → NoneMay resolver_may c (length c.pipeline.resolved) → NoneMay log_may c (length c.pipeline.logged) →
     may_report c.pipeline ≡ false → NoneMay may_pull c (length c.pulled) → IsSettled c
 settled_so c ordered within resolvers logs reports servers =
-    λ i. record {
+    λ i. record c {
       pipeline = record c.pipeline { resolved = all_at c.pipeline.resolved last resolved i; logged = all_at c.pipeline.logged last logged i; reported = reported i };
-      splits = c.splits;
       pulled = all_at c.pulled last pulled i;
     }
   where
@@ -243,13 +242,12 @@ same_map (x ∷ xs) (y ∷ ys) last same = ap (λ rest. last ∷ rest) (same_map
 -- the same cluster is reached whatever way the clocks took
 settled_moved : (c : ClusterState) (resolved logged : List ℕ) (reported : ℕ) (pulled : List ℕ) → length resolved ≡ length c.pipeline.resolved → length logged ≡ length c.pipeline.logged → length pulled ≡ length c.pulled →
     settled (moved c resolved logged reported pulled) ≡ settled c
-settled_moved c resolved logged reported pulled resolvers logs servers = λ i. record {
+settled_moved c resolved logged reported pulled resolvers logs servers = λ i. record c {
   pipeline = record c.pipeline {
     resolved = same_map resolved c.pipeline.resolved (submitted c.pipeline) resolvers i;
     logged = same_map logged c.pipeline.logged (submitted c.pipeline) logs i;
     reported = submitted c.pipeline;
   };
-  splits = c.splits;
   pulled = same_map pulled c.pulled (submitted c.pipeline) servers i;
 }
 

@@ -120,14 +120,14 @@ standing_submitted c opens submissions transactions waiting entries client versi
       begun = s.begun;
       given = omega (arith, longer, given);
       pulled = λ k d within. let below : get_or c.pulled k d ≤ p.start + length p.requests = s.pulled k d within in omega (arith, longer, below);
-      places = λ who there. place_elsewhere (database_at c) (database_at (with_pipeline (submit request p) c)) p.reported (opens who) (get_or transactions who None) (λ v h. maps_submitted p request v (omega (arith, h, given))) (s.places who there);
+      places = λ who there. place_elsewhere (database_at c) (database_at (with_pipeline (submit request p) c)) p.reported (opens who) (get_or transactions who None) (λ v h. maps_submitted c.base p request v (omega (arith, h, given))) (s.places who there);
       unreported =
           ap (λ ws. ws ++ (record { client = client; store = transaction.store; read_version = request.read_version; commands = transaction.commands }) ∷ []) s.unreported
           ∙ (λ i. map kept (drop (p.reported - p.start) submissions) ++ (record { client = client; store = is.store i; read_version = is.done.at i; commands = is.commands i }) ∷ [])
           ∙ sym (map-append kept (drop (p.reported - p.start) submissions) (one ∷ []))
           ∙ ap (map kept) (sym (drop-append-le (p.reported - p.start) submissions (one ∷ []) behind));
       commits = s.commits ∙ sym (commits_submitted p request submissions one (submitted_versions (database_at c) p.reported p.start submissions p.requests s.submitted) counted s.given is_next);
-      submitted = submitted_more p submissions version client ended request s.submitted s.given is_next is.done;
+      submitted = submitted_more c.base p submissions version client ended request s.submitted s.given is_next is.done;
     }
 
 -- the cluster takes the next request

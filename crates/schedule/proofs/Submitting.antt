@@ -7,10 +7,10 @@ use Rattle.std.proofs.lemmas.List.{append-nil, map-append}
 use Rattle.std.proofs.lemmas.List.Elements.{filter-append}
 use Rattle.kv_core.specs.Map.{Map}
 use Rattle.kv_core.specs.declared.change.CommitRequest.{CommitRequest}
-use Rattle.cluster_core.specs.History.{Entry, map_at}
+use Rattle.cluster_core.specs.History.{Entry, map_over}
 use Rattle.cluster_core.specs.Decision.{numbered}
 use Rattle.cluster_core.specs.Roles.{PipelineState, entries, history, outcome, report, submit, submitted, told, told_of}
-use Rattle.cluster_core.proofs.Growth.{numbered-push, later_changes_nothing, maps_stay}
+use Rattle.cluster_core.proofs.Growth.{numbered-push, later_changes_nothing, maps_stay_over}
 use Rattle.cluster_core.proofs.Bridge.{version_at}
 use Rattle.schedule.specs.Past.{Open, Submission}
 use Rattle.schedule.specs.Standing.{is_told, is_listed, commit_entry, commits_of}
@@ -86,21 +86,21 @@ submitted_versions maps reported last (one ∷ subs) (request ∷ requests) are 
 -- ---- one more request
 
 -- the map at each version given so far stays
-pub maps_submitted : (p : PipelineState) (request : CommitRequest) (v : ℕ) → v ≤ submitted p → map_at (history p) v ≡ map_at (history (submit request p)) v
-maps_submitted p request v below = sym (maps_stay p.splits p.start p.requests request v below)
+pub maps_submitted : (base : Map) (p : PipelineState) (request : CommitRequest) (v : ℕ) → v ≤ submitted p → map_over base (history p) v ≡ map_over base (history (submit request p)) v
+maps_submitted base p request v below = sym (maps_stay_over base p.splits p.start p.requests request v below)
 
 -- a request that is submitted next
-pub submitted_more : (p : PipelineState) (subs : List Submission) (version client : ℕ) (open_now : Open) (request : CommitRequest) →
-    AreSubmitted (map_at (history p)) p.reported p.start subs p.requests → p.reported ≤ submitted p → version ≡ submitted p + 1 → IsOpenTransaction (map_at (history p)) p.reported open_now request →
-    AreSubmitted (map_at (history (submit request p))) p.reported p.start (subs ++ (record { version = version; client = client; transaction = open_now }) ∷ []) (p.requests ++ request ∷ [])
-submitted_more p subs version client open_now request are below is_next is =
-    let stay : (v : ℕ) → v ≤ p.reported → map_at (history p) v ≡ map_at (history (submit request p)) v = λ v h. maps_submitted p request v (omega (arith, h, below)) in
-    submitted_push (map_at (history (submit request p))) p.reported p.start subs p.requests (record { version = version; client = client; transaction = open_now }) request
-    (submitted_elsewhere (map_at (history p)) (map_at (history (submit request p))) p.reported p.start subs p.requests stay are)
+pub submitted_more : (base : Map) (p : PipelineState) (subs : List Submission) (version client : ℕ) (open_now : Open) (request : CommitRequest) →
+    AreSubmitted (map_over base (history p)) p.reported p.start subs p.requests → p.reported ≤ submitted p → version ≡ submitted p + 1 → IsOpenTransaction (map_over base (history p)) p.reported open_now request →
+    AreSubmitted (map_over base (history (submit request p))) p.reported p.start (subs ++ (record { version = version; client = client; transaction = open_now }) ∷ []) (p.requests ++ request ∷ [])
+submitted_more base p subs version client open_now request are below is_next is =
+    let stay : (v : ℕ) → v ≤ p.reported → map_over base (history p) v ≡ map_over base (history (submit request p)) v = λ v h. maps_submitted base p request v (omega (arith, h, below)) in
+    submitted_push (map_over base (history (submit request p))) p.reported p.start subs p.requests (record { version = version; client = client; transaction = open_now }) request
+    (submitted_elsewhere (map_over base (history p)) (map_over base (history (submit request p))) p.reported p.start subs p.requests stay are)
     (record {
       given = is_next;
       below = (let at : request.read_version ≡ open_now.read_version = is.at in let seen : open_now.read_version ≤ p.reported = is.seen in omega (arith, at, seen, below));
-      open_as = open_elsewhere (map_at (history p)) (map_at (history (submit request p))) p.reported open_now request stay is;
+      open_as = open_elsewhere (map_over base (history p)) (map_over base (history (submit request p))) p.reported open_now request stay is;
     })
 
 -- an item of a list stays where the list grows at its end

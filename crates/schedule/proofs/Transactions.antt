@@ -44,7 +44,7 @@ next_later requests [] c is given = record { reported = omega arith; maps = λ v
     none = ap (take (length c.pipeline.requests + 1)) (is ∙ append-nil c.pipeline.requests) ∙ take_all (length c.pipeline.requests + 1) c.pipeline.requests (omega arith)
 next_later requests (request ∷ more) c is given = record {
   reported = omega arith;
-  maps = λ v h. maps_submitted c.pipeline request v (omega (arith, h, given)) ∙ ap (λ rs. database_at (with_pipeline (record c.pipeline { requests = rs }) c) v) (sym one);
+  maps = λ v h. maps_submitted c.base c.pipeline request v (omega (arith, h, given)) ∙ ap (λ rs. database_at (with_pipeline (record c.pipeline { requests = rs }) c) v) (sym one);
 }
   where
     one : take (length c.pipeline.requests + 1) requests ≡ c.pipeline.requests ++ request ∷ []

@@ -6,7 +6,6 @@ use Rattle.std.specs.List.{find, range_with_len}
 use Rattle.std.specs.Option.{option_map, option_map_or}
 use Rattle.kv_core.specs.Map.{Map}
 use Rattle.kv_core.specs.declared.change.CommitRequest.{CommitRequest}
-use Rattle.cluster_core.specs.declared.answers.Config.{Config}
 use Rattle.cluster_core.specs.declared.answers.Reported.{Reported}
 use Rattle.cluster_core.specs.declared.answers.Reported.TheVariants as reported
 use Rattle.cluster_core.specs.declared.answers.SubmitError.{SubmitError}
@@ -33,9 +32,9 @@ use Rattle.record_store.specs.Store.{Serial}
 use Rattle.schedule.specs.Serve.{effect}
 use Rattle.schedule.specs.Past.{Past, Attempt, Open, Submission, accepted}
 use Rattle.schedule.specs.Past.{is_accepted, is_changed, kept_plan, open_of, submitted_in}
-use Rattle.schedule.specs.Holds.{NothingElse, Stands}
-use Rattle.schedule.specs.Commits.{committed_store}
-use Rattle.schedule.specs.Standing.{cluster_after, commits_of, listed}
+use Rattle.schedule.specs.Holds.{HoldsAll, Stores, no_stores}
+use Rattle.schedule.specs.Commits.{committed_over}
+use Rattle.schedule.specs.Standing.{cluster_from, commits_of, listed}
 
 -- ---- replies
 
@@ -156,10 +155,10 @@ IsReplyBy IsOfCommand c past Report reply = reply ≡ report_reply c.pipeline (s
 IsReplyBy IsOfCommand c past Lost reply = reply ≡ lost_reply c.pipeline (submitted_in past)
 IsReplyBy IsOfCommand c past Settle reply = reply ≡ settle_reply c.pipeline (submitted_in past)
 
--- REPLIES: each reply is right as the cluster stands after the steps before it
-abbrev pub HasReplies : CommandRelation → Config → List CommitRequest → List Step → List Reply → Type 0
-HasReplies IsOfCommand config requests steps replies =
-    EachReply (λ past step reply. IsReplyBy IsOfCommand (cluster_after config requests past) past step reply) [] steps
+-- REPLIES: each reply is right as the cluster, which was this at first, stands after the steps before it
+abbrev pub HasReplies : CommandRelation → ClusterState → List CommitRequest → List Step → List Reply → Type 0
+HasReplies IsOfCommand first requests steps replies =
+    EachReply (λ past step reply. IsReplyBy IsOfCommand (cluster_from first requests past) past step reply) [] steps
     replies
 
 -- the open transaction of a client, by its store, its read version and its accepted commands
@@ -177,32 +176,34 @@ left_open (Commit who) client before = if who == client then None else before
 left_open step client before = before
 
 -- a refused step leaves all as it was
-pub record IsLeft (config : Config) (requests : List CommitRequest) (past : Past) (step : Step) (reply : Reply) :
+pub record IsLeft (first : ClusterState) (requests : List CommitRequest) (past : Past) (step : Step) (reply : Reply) :
     Type 0 where
-  pub cluster : cluster_after config requests ((step, reply) ∷ past) ≡ cluster_after config requests past
+  pub cluster : cluster_from first requests ((step, reply) ∷ past) ≡ cluster_from first requests past
   pub submissions : submitted_in ((step, reply) ∷ past) ≡ submitted_in past
   pub transactions :
       (client : ℕ) → open_by_commands client ((step, reply) ∷ past)
       ≡ left_open step client (open_by_commands client past)
 
 -- REFUSALS: a step that is refused leaves all as it was
-abbrev pub LeavesAll : Config → List CommitRequest → Past → Step → Reply → Type 0
-LeavesAll config requests past step (Refused refusal) = IsLeft config requests past step (Refused refusal)
-LeavesAll config requests past step reply = Unit {0}
+abbrev pub LeavesAll : ClusterState → List CommitRequest → Past → Step → Reply → Type 0
+LeavesAll first requests past step (Refused refusal) = IsLeft first requests past step (Refused refusal)
+LeavesAll first requests past step reply = Unit {0}
 
 -- ---- what is left
 
--- a map holds of each store what is committed at a version, and nothing else
-pub record HoldsAt (commits : List CommitEntry) (version : ℕ) (m : Map) : Type 0 where
-  pub each :
-      (number : ℕ) → is_store_number number ≡ true → Stands number m (committed_store number commits version)
-  pub nothing_else : NothingElse m
+-- a map holds of each store what is committed at a version, where these were there at first, and nothing else
+abbrev pub HoldsOver : Stores → List CommitEntry → ℕ → Map → Type 0
+HoldsOver before commits version m = HoldsAll m (λ number. committed_over before number commits version)
+
+-- so it is where there was no store at first
+abbrev pub HoldsAt : List CommitEntry → ℕ → Map → Type 0
+HoldsAt commits version m = HoldsOver no_stores commits version m
 
 -- HOLDS: at each version from the start to the last reported one the database holds what is committed there
-abbrev pub HoldsCommitted : ClusterState → List CommitEntry → Type 0
-HoldsCommitted c commits =
+abbrev pub HoldsCommitted : Stores → ClusterState → List CommitEntry → Type 0
+HoldsCommitted before c commits =
     (version : ℕ) → c.pipeline.start ≤ version → version ≤ c.pipeline.reported →
-    HoldsAt commits version (database_at c version)
+    HoldsOver before commits version (database_at c version)
 
 -- what is there after an attempt at a command
 abbrev pub attempted : Serial → Attempt → Serial
@@ -217,9 +218,9 @@ IsSerialBy IsOfCommand serial (attempt ∷ attempts) =
     × IsSerialBy IsOfCommand (attempted serial attempt) attempts
 
 abbrev pub AreSerialBy :
-    (Serial → Command → Reply → Type 0) → ClusterState → List CommitEntry → List Submission → Type 0
-AreSerialBy IsOfCommand c commits submissions =
-    All (λ one. IsSerialBy IsOfCommand (committed_store one.transaction.store commits (one.version - 1))
+    (Serial → Command → Reply → Type 0) → Stores → ClusterState → List CommitEntry → List Submission → Type 0
+AreSerialBy IsOfCommand before c commits submissions =
+    All (λ one. IsSerialBy IsOfCommand (committed_over before one.transaction.store commits (one.version - 1))
     one.transaction.attempts) (listed c.pipeline submissions)
 
 -- REQUESTS: there is one for each submission, which is as stated

@@ -20,7 +20,8 @@ use Rattle.schedule.specs.declared.transcript.CommitEntry.{CommitEntry}
 use Rattle.schedule.specs.declared.transcript.Transcript.{Transcript}
 use Rattle.schedule.specs.Query.{AreRows}
 use Rattle.schedule.specs.Past.{Attempt, Open, Past, open_of}
-use Rattle.schedule.specs.Commits.{committed_store}
+use Rattle.schedule.specs.Holds.{Stores, no_stores}
+use Rattle.schedule.specs.Commits.{committed_over}
 use Rattle.schedule.specs.Contract.{attempted, past_of}
 
 -- the query that a command executes a plan for, if it does: its own, or that of the plan that was kept
@@ -54,18 +55,24 @@ HasExactIndexes number m (Some store) =
     HasDefined index.kind (store_prefix number) index store.records m)
     store.schema.indexes
 
--- HEADLINE, by the map at each version from a first to a last one, the transactions that are committed, and those that
--- there were
-pub record Headline (maps : ℕ → Map) (commits : List CommitEntry) (first last : ℕ) (Was : Open → Type 0) : Type 0 where
+-- HEADLINE, by the stores that were there at first, the map at each version from a first to a last one, the
+-- transactions that are committed, and those that there were
+pub record HeadlineOver (before : Stores) (maps : ℕ → Map) (commits : List CommitEntry) (first last : ℕ)
+    (Was : Open → Type 0) : Type 0 where
   -- the rows of a planned query are its meaning over the records that are committed in its transaction's own store by
   -- the transaction's read version, as the transaction's own writes change them
   pub rows :
       (transaction : Open) → Was transaction →
-      AreRightlyAnswered (committed_store transaction.store commits transaction.read_version) transaction.attempts
+      AreRightlyAnswered (committed_over before transaction.store commits transaction.read_version)
+      transaction.attempts
   -- at every version each readable index of each store has just what the records committed in that store define
   pub indexes :
       (number : ℕ) → is_store_number number ≡ true → (version : ℕ) → first ≤ version → version ≤ last →
-      HasExactIndexes number (maps version) (committed_store number commits version)
+      HasExactIndexes number (maps version) (committed_over before number commits version)
+
+-- HEADLINE: so it is where there was no store at first
+abbrev pub Headline : (ℕ → Map) → List CommitEntry → ℕ → ℕ → (Open → Type 0) → Type 0
+Headline maps commits first last Was = HeadlineOver no_stores maps commits first last Was
 
 -- one of the clients had the transaction open after one of the steps
 abbrev pub WasOpen : Past → Open → Type 0
@@ -73,8 +80,12 @@ WasOpen [] transaction = ⊥
 WasOpen (event ∷ past) transaction =
     ((client : ℕ) × client < CLIENTS × (open_of client (event ∷ past) ≡ Some transaction)) ⊎ WasOpen past transaction
 
--- so it is with a run of a schedule
-abbrev pub IsHeadline : List Step → Transcript → Type 0
-IsHeadline steps run =
-    Headline (database_at run.cluster) run.commits run.cluster.pipeline.start run.cluster.pipeline.reported
+-- so it is with a run of a schedule, where these stores were there at first
+abbrev pub IsHeadlineOver : Stores → List Step → Transcript → Type 0
+IsHeadlineOver before steps run =
+    HeadlineOver before (database_at run.cluster) run.commits run.cluster.pipeline.start run.cluster.pipeline.reported
     (WasOpen (past_of [] steps run.replies))
+
+-- and where there was none
+abbrev pub IsHeadline : List Step → Transcript → Type 0
+IsHeadline steps run = IsHeadlineOver no_stores steps run

@@ -3,12 +3,10 @@ use Rattle.std.specs.Prelude.{◌≡◌, ◌≤◌, ◌<◌, ℕ, ◌+◌, ◌-�
 use Rattle.std.specs.Prelude.{if◌then◌else◌, All, drop, get_or, map, replicate, true, false, Bool}
 use Rattle.kv_core.specs.Map.{Map}
 use Rattle.kv_core.specs.declared.change.CommitRequest.{CommitRequest}
-use Rattle.cluster_core.specs.declared.answers.Config.{Config}
 use Rattle.cluster_core.specs.declared.answers.Reported.TheVariants.{NothingToDo}
 use Rattle.cluster_core.specs.declared.answers.Work.{Work}
 use Rattle.cluster_core.specs.declared.answers.Work.TheVariants as works
 use Rattle.cluster_core.specs.Cluster.{ClusterState, database_at, tier_of, with_pipeline}
-use Rattle.cluster_core.specs.Configuration.{first_cluster}
 use Rattle.cluster_core.specs.Roles.{may_report, outcome, report, submitted}
 use Rattle.cluster_core.specs.Refusing.{MayRefuse}
 use Rattle.schedule.specs.declared.step.Command.{Command}
@@ -28,11 +26,11 @@ use Rattle.schedule.specs.declared.database.Unreported.{Unreported}
 use Rattle.schedule.specs.Past.{Past, Open, Submission, accepted, is_accepted, kept_plan, open_of, submitted_in}
 use Rattle.planner.specs.Asked.{AskedPlan}
 use Rattle.schedule.specs.Performed.{IsPerformed}
-use Rattle.schedule.specs.Standing.{cluster_after, cluster_stepped, commits_of}
-use Rattle.schedule.specs.Contract.{InTransaction, OfClient, client_of, commit_reply, past_of, report_to}
-use Rattle.schedule.specs.Exact.{HasExactReplies, IsReplyTo}
+use Rattle.schedule.specs.Standing.{cluster_from, cluster_stepped, commits_of}
+use Rattle.schedule.specs.Contract.{HasReplies, InTransaction, OfClient, client_of, commit_reply, past_of, report_to}
+use Rattle.schedule.specs.Exact.{IsReplyHeld, IsReplyTo}
 use Rattle.schedule.specs.Headline.{WasOpen}
-use Rattle.schedule.specs.Known.{IsKnown, StaysKnown}
+use Rattle.schedule.specs.Known.{IsKnown, SeesSerial}
 use Rattle.schedule.specs.Turns.{AreSubmitted, IsOpenTransaction}
 
 -- what is kept of a submission until it is reported
@@ -85,9 +83,9 @@ IsStanding opens submissions database =
 abbrev pub StandsAfter : Past → Database → Type 0
 StandsAfter past database = IsStanding (λ client. open_of client past) (submitted_in past) database
 
--- Private: the database at the start
-pub record IsFirst (config : Config) (database : Database) : Type 0 where
-  pub cluster : database.cluster ≡ first_cluster config
+-- Private: the database at the start, where the cluster is this
+pub record IsFirst (first : ClusterState) (database : Database) : Type 0 where
+  pub cluster : database.cluster ≡ first
   pub places : database.transactions.items ≡ replicate CLIENTS None
   pub unreported : database.unreported.items ≡ []
   pub commits : database.commits ≡ []
@@ -116,15 +114,17 @@ IsSteppedWith plans step reply old new =
     (past : Past) → StandsAfter past old → AreKept past plans → Steps past step reply old new
 
 -- Private: a command was performed in an open transaction, in its store; it is kept where it is accepted, and a
--- store that is left open stands there
-pub record IsPerformedBy (c : ClusterState) (command : Command) (reply : Reply) (old new : OpenTransaction) :
-    Type 0 where
+-- store that is left open, where stores may stay open, stands there
+pub record IsPerformedBy (c : ClusterState) (stays_open : Bool) (command : Command) (reply : Reply)
+    (old new : OpenTransaction) : Type 0 where
   pub store : new.store ≡ old.store
   pub performed :
       IsPerformed old.store (database_at c) (λ range. MayRefuse (tier_of c) range old.transaction.read_version)
       command reply old.transaction new.transaction
   pub commands : new.commands ≡ old.commands ++ (if is_accepted reply then command ∷ [] else [])
-  pub known : StaysKnown old.store (database_at c) new.opened old.transaction new.transaction
+  pub known :
+      (stays_open ≡ true → SeesSerial old.store (database_at c) old.transaction) →
+      IsKnown old.store (database_at c) new.opened new.transaction
 
 -- Private: the reply to executing where no plan is kept, whatever stood before: there is no such client, or it has no
 -- open transaction, or no plan
@@ -234,13 +234,15 @@ pub record IsStillOpen (c : ClusterState) (transaction : Open) : Type 0 where
   pub request : CommitRequest
   pub is : IsOpenTransaction (database_at c) c.pipeline.reported transaction request
 
--- the steps were done one after another from the start: each reply is right however many requests come later, and the
--- cluster is the one after the steps; and each transaction that there was is what its attempts made
-pub record HasRun (config : Config) (steps : List Step) (replies : List Reply) (database : Database) : Type 0 where
+-- the steps were done one after another from where the cluster was this: each reply is right however many requests
+-- come later, and the cluster is the one after the steps; and each transaction that there was is what its attempts made
+pub record HasRun (first : ClusterState) (steps : List Step) (replies : List Reply) (database : Database) :
+    Type 0 where
   pub right :
-      (more : List CommitRequest) → HasExactReplies config (database.cluster.pipeline.requests ++ more) steps replies
+      (more : List CommitRequest) →
+      HasReplies IsReplyHeld first (database.cluster.pipeline.requests ++ more) steps replies
   pub cluster :
-      (more : List CommitRequest) → cluster_after config (database.cluster.pipeline.requests ++ more)
+      (more : List CommitRequest) → cluster_from first (database.cluster.pipeline.requests ++ more)
       (past_of [] steps replies) ≡ database.cluster
   pub stands : StandsAfter (past_of [] steps replies) database
   pub opened :

@@ -21,9 +21,8 @@ has_worked works.NothingToDo = false
 -- the cluster with its clocks elsewhere
 abbrev pub moved : ClusterState → List ℕ → List ℕ → ℕ → List ℕ → ClusterState
 moved c resolved logged reported pulled =
-    record {
+    record c {
       pipeline = record c.pipeline { resolved = resolved; logged = logged; reported = reported };
-      splits = c.splits;
       pulled = pulled;
     }
 

@@ -22,7 +22,7 @@ with_next requests p = record p { requests = take (length p.requests + 1) reques
 -- the cluster where every role has handled all that is submitted
 abbrev pub settled : ClusterState → ClusterState
 settled c =
-    record { pipeline = all_handled c.pipeline; splits = c.splits; pulled = map (λ _. submitted c.pipeline) c.pulled }
+    record c { pipeline = all_handled c.pipeline; pulled = map (λ _. submitted c.pipeline) c.pulled }
 
 -- the reply says that the transaction was submitted, that the step was done, that something was reported
 abbrev pub is_submitted : Reply → Bool
@@ -49,11 +49,15 @@ cluster_stepped requests Lost reply c = if is_reported reply then with_pipeline 
 cluster_stepped requests Settle reply c = settled c
 cluster_stepped requests step reply c = c
 
--- the cluster after the steps so far
+-- the cluster after the steps so far, from this one on
+abbrev pub cluster_from : ClusterState → List CommitRequest → Past → ClusterState
+cluster_from first requests [] = first
+cluster_from first requests (event ∷ past) =
+    cluster_stepped requests event.0 event.1 (cluster_from first requests past)
+
+-- Private: so it is from the start of a configuration on
 abbrev pub cluster_after : Config → List CommitRequest → Past → ClusterState
-cluster_after config requests [] = first_cluster config
-cluster_after config requests (event ∷ past) =
-    cluster_stepped requests event.0 event.1 (cluster_after config requests past)
+cluster_after config requests past = cluster_from (first_cluster config) requests past
 
 -- a report tells that its request is committed
 abbrev pub is_told : Reported → Bool

@@ -1,7 +1,8 @@
 // The steps of clients: a transaction is begun, given commands, committed or abandoned. Called by
 // `running`.
-ghost use Rattle.std.specs.Prelude.{◌≡◌, ◌≤◌, IfOk};
+ghost use Rattle.std.specs.Prelude.{◌≡◌, ◌≤◌, IfOk, None, if◌then◌else◌, true};
 ghost use Rattle.cluster_core.specs.Cluster.{database_at};
+ghost use Rattle.schedule.specs.Holds.{IsHeld};
 ghost use Rattle.schedule.specs.Known.{IsKnown};
 ghost use Rattle.schedule.specs.Past.{Past, is_accepted};
 ghost use Rattle.schedule.specs.Running.{IsPerformedBy, IsStepped, IsSteppedWith, IsSubmit, IsUnplanned, StandsAfter};
@@ -16,7 +17,7 @@ use crate::reply::Reply;
 use crate::starting::laws_of;
 use crate::step::{CLIENTS, Command, Step};
 use cluster_core::{Cluster, SubmitError};
-use record_store::StoreNumber;
+use record_store::{Store, StoreNumber};
 use std::alloc::{AllocError, Global};
 use txn::Transaction;
 
@@ -30,23 +31,32 @@ fn is_accepted(reply: &Reply) -> bool
     )
 }
 
+// The store that stays open, where stores may.
+fn kept_open(stays_open: bool, store: Option<Store>) -> Option<Store>
+    ensures { result ≡ (if stays_open then store else None) }
+{
+    if stays_open { store } else { None }
+}
+
 impl OpenTransaction {
-    // Performs a command, and keeps it where it is accepted. A store that is left open is kept too.
+    // Performs a command, and keeps it where it is accepted. A store that is left open is kept too,
+    // where stores may stay open.
     fn perform(
         &mut self,
         alloc: Global,
         command: &Command,
         cluster: &Cluster,
         known: &mut Known,
+        stays_open: bool,
     ) -> Result<Reply, AllocError>
         requires { IsKnown self.old.store (database_at cluster.now)
             self.old.opened self.old.transaction }
-        ensures { IfOk result (λ reply. IsPerformedBy cluster.now command.now reply self.old self.new) }
+        ensures { IfOk result (λ reply. IsPerformedBy cluster.now stays_open command.now reply self.old self.new) }
     {
         known.store = self.opened.take();
         let transaction = &mut self.transaction;
         let reply = perform_open(alloc, command, self.store, transaction, cluster, known)?;
-        self.opened = known.store.take();
+        self.opened = kept_open(stays_open, known.store.take());
         if is_accepted(&reply) {
             self.commands.push(command)?;
         }
@@ -86,8 +96,10 @@ impl Database {
         client: u64,
         command: &Command,
         known: &mut Known,
+        stays_open: bool,
     ) -> Result<Reply, AllocError>
-        requires { (past : Past) × StandsAfter past self.old }
+        requires stands { (past : Past) × StandsAfter past self.old }
+        requires held { stays_open ≡ true → IsHeld self.old.cluster.base }
         ensures { IfOk result (λ reply. IsStepped (Step.Perform client command.now) reply self.old self.new) }
     {
         if client >= CLIENTS as u64 {
@@ -96,7 +108,7 @@ impl Database {
         match &mut self.transactions[client as usize] {
             Some(transaction) => {
                 laws_of(&self.cluster);
-                let reply = transaction.perform(alloc, command, &self.cluster, known)?;
+                let reply = transaction.perform(alloc, command, &self.cluster, known, stays_open)?;
                 Ok(reply)
             }
             None => Ok(Reply::Refused(Refusal::NoTransaction)),
@@ -123,15 +135,17 @@ impl Database {
         kept: &KeptPlans,
         client: u64,
         known: &mut Known,
+        stays_open: bool,
     ) -> Result<Reply, AllocError>
-        requires { (past : Past) × StandsAfter past self.old }
+        requires stands { (past : Past) × StandsAfter past self.old }
+        requires held { stays_open ≡ true → IsHeld self.old.cluster.base }
         ensures { IfOk result (λ reply.
             IsSteppedWith kept.now.plans.items (Step.Execute client) reply self.old self.new) }
     {
         match kept.plan_of(client) {
             Some(plan) => {
                 let command = Command::Execute(plan.copy()?);
-                let reply = self.perform(alloc, client, &command, known)?;
+                let reply = self.perform(alloc, client, &command, known, stays_open)?;
                 Ok(reply)
             }
             None => Ok(self.without_plan(client)),

@@ -1,22 +1,26 @@
 //! A schedule that is made a step at a time, for who has no list of steps: a person at a shell.
-ghost use Rattle.std.specs.Prelude.{◌≡◌, ◌⊎◌, [], Some, IfOk, IfErr, OnOk, IsNone};
+ghost use Rattle.std.specs.Prelude.{◌≡◌, ◌⊎◌, ◌≤◌, [], Some, IfOk, IfErr, OnOk, IsNone, true};
+ghost use Rattle.std.specs.FinMap.{from_entries};
 ghost use Rattle.cluster_core.specs.Cluster.{forget};
-ghost use Rattle.cluster_core.specs.Configuration.{config_refusal};
+ghost use Rattle.cluster_core.specs.Configuration.{config_refusal, first_cluster_over};
 ghost use Rattle.cluster_core.specs.declared.answers.ConfigError.{ConfigError as ConfigRefusal};
-ghost use Rattle.schedule.specs.Exact.{IsExactRun};
-ghost use Rattle.schedule.specs.Headline.{IsHeadline};
-ghost use Rattle.schedule.specs.Right.{IsRightRun};
-ghost use Rattle.schedule.specs.Stepwise.{DoesNext, HasDone, IsSoFar, whole_cluster};
+ghost use Rattle.schedule.specs.Exact.{IsExactOver, IsExactRun};
+ghost use Rattle.schedule.specs.Headline.{IsHeadline, IsHeadlineOver};
+ghost use Rattle.schedule.specs.Holds.{IsHeld};
+ghost use Rattle.schedule.specs.Right.{IsRightOver, IsRightRun};
+ghost use Rattle.schedule.specs.Stepwise.{DoesNext, HasDone, HasDoneFrom, IsSoFar, IsSoFarOver};
+ghost use Rattle.schedule.specs.Stepwise.{whole_cluster};
 
 use crate::database::Database;
 use crate::kept_plans::KeptPlans;
 use crate::known::Known;
 use crate::reply::Reply;
-use crate::running::start;
+use crate::running::{start, start_over};
 use crate::starting::laws_of;
 use crate::step::Step;
 use crate::transcript::ScheduleError;
 use cluster_core::{Cluster, Config};
+use kv_core::Pair;
 use std::alloc::{AllocError, Global};
 use std::marker::Model;
 
@@ -26,6 +30,9 @@ struct Parts {
     database: Database,
     kept: KeptPlans,
     known: Known,
+    // Whether stores stay open between the commands of a transaction: not where it isn't known that
+    // the database began over stores.
+    stays_open: bool,
 }
 
 /// A schedule after the steps that were done so far. It keeps no list of committed transactions, and
@@ -49,15 +56,16 @@ impl Model for Schedule {
     ghost use Rattle.schedule.specs.contracts.step.Command as command;
     ghost use Rattle.schedule.specs.contracts.shared_plan.SharedPlan as plan;
     ghost use Rattle.std.specs.Coded.{codes};
+    ghost use Rattle.cluster_core.specs.TierCode.{map_code};
 
     ghost Value = { StepwiseState };
 
-    ghost coded = { Prim.hlevel (codes, command.the_row.coded, plan.the_row.coded) };
+    ghost coded = { Prim.hlevel (codes, map_code, command.the_row.coded, plan.the_row.coded) };
 
     ghost view = { λ s. stepwise_state s.parts.value.database s.parts.value.kept.plans.items };
 
-    ghost invariant = { λ s.
-        IsReached s.parts.value.database s.parts.value.kept.plans.items };
+    ghost invariant = { λ s. IsReached s.parts.value.database
+        s.parts.value.kept.plans.items s.parts.value.stays_open };
 }
 
 impl Database {
@@ -87,6 +95,46 @@ impl Schedule {
             database,
             kept,
             known,
+            stays_open: true,
+        };
+        match Box::new(alloc, parts) {
+            Ok(parts) => Ok(Schedule { parts }),
+            Err(_) => Err(ScheduleError::Memory),
+        }
+    }
+
+    /// A schedule of no steps, over the map of these pairs, as a checkpoint or a log gives them. It
+    /// stands at the configuration's first version, which isn't 0. Where a key is there more than
+    /// once, the first of its pairs stands. Refused as `run_schedule` is.
+    ///
+    /// What is promised of the schedule's steps is so for all stores that the pairs hold. Where the
+    /// caller knows that they hold some (`of_stores`) a store stays open from one command of a
+    /// transaction to the next one; else each command opens it anew, since nothing is known of it.
+    pub fn over(
+        alloc: Global,
+        config: &Config,
+        pairs: Vec<Pair>,
+        of_stores: bool,
+    ) -> Result<Schedule, ScheduleError>
+        requires start { 1 ≤ config.now.start }
+        requires stores { of_stores ≡ true → IsHeld (from_entries pairs.items) }
+        ensures begun { IfOk result (
+            HasDoneFrom (first_cluster_over (from_entries pairs.items) config.now) [] []) }
+        ensures allowed { OnOk result (IsNone (config_refusal config.now)) }
+        ensures refused { IfErr result (λ error. (error ≡ ScheduleError.Memory)
+            ⊎ ((why : ConfigRefusal) × (error ≡ ScheduleError.Config why) × (config_refusal config.now ≡ Some why))) }
+    {
+        let database = start_over(alloc, config, pairs)?;
+        let kept = match KeptPlans::new(alloc) {
+            Ok(kept) => kept,
+            Err(AllocError) => return Err(ScheduleError::Memory),
+        };
+        let known = Known::new();
+        let parts = Parts {
+            database,
+            kept,
+            known,
+            stays_open: of_stores,
         };
         match Box::new(alloc, parts) {
             Ok(parts) => Ok(Schedule { parts }),
@@ -103,8 +151,9 @@ impl Schedule {
             database,
             kept,
             known,
+            stays_open,
         } = &mut *parts;
-        let reply = database.step(alloc, kept, known, step)?;
+        let reply = database.step(alloc, kept, known, *stays_open, step)?;
         kept.keep(step, &reply)?;
         database.let_go();
         let longer = Schedule { parts };
@@ -113,13 +162,17 @@ impl Schedule {
 
     /// The cluster after the steps so far. Whatever steps those were and whatever they replied: the
     /// transcript of them is one that `run_schedule` may answer, but that of the requests only those
-    /// are kept of which a role or a server may still ask.
+    /// are kept of which a role or a server may still ask. Over a base it is so for all stores that the
+    /// base holds.
     pub fn cluster(&self) -> &Cluster
         ensures now { whole_cluster result.now ≡ self.now.database.cluster }
         ensures forgotten { result.now ≡ forget result.now }
         ensures right { IsSoFar IsRightRun self.now }
         ensures exact { IsSoFar IsExactRun self.now }
         ensures headline { IsSoFar (λ _. IsHeadline) self.now }
+        ensures right_over { IsSoFarOver IsRightOver self.now }
+        ensures exact_over { IsSoFarOver IsExactOver self.now }
+        ensures headline_over { IsSoFarOver (λ _. IsHeadlineOver) self.now }
     {
         let parts = self.parts.as_ref();
         laws_of(&parts.database.cluster);

@@ -1,17 +1,18 @@
 -- A schedule after more steps.
 use Rattle.std.specs.Prelude.{ℕ, List, ◌++◌}
+use Rattle.cluster_core.specs.Cluster.{ClusterState}
 use Rattle.cluster_core.specs.Configuration.{single}
 use Rattle.cluster_core.specs.declared.answers.Config.{Config}
 use Rattle.schedule.specs.declared.step.Step.{Step}
 use Rattle.schedule.specs.declared.reply.Reply.{Reply}
-use Rattle.schedule.specs.Stepwise.{HasDone, StepwiseState}
+use Rattle.schedule.specs.Stepwise.{HasDone, HasDoneFrom, StepwiseState}
 use Rattle.logged_schedule.specs.Opening.{from_version}
 
 -- whatever steps were done before, these were done after them
 abbrev pub HasDoneNext : List Step → StepwiseState → StepwiseState → Type 0
 HasDoneNext steps before after =
-    (config : Config) (done : List Step) (replies : List Reply) → HasDone config done replies before →
-    (more : List Reply) × HasDone config (done ++ steps) (replies ++ more) after
+    (first : ClusterState) (done : List Step) (replies : List Reply) → HasDoneFrom first done replies before →
+    (more : List Reply) × HasDoneFrom first (done ++ steps) (replies ++ more) after
 
 -- some steps were done
 abbrev pub IsAfter : StepwiseState → StepwiseState → Type 0

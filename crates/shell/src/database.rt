@@ -37,11 +37,12 @@ impl Model for Database {
     ghost use Rattle.schedule.specs.contracts.step.Command as command;
     ghost use Rattle.schedule.specs.contracts.shared_plan.SharedPlan as plan;
     ghost use Rattle.std.specs.Coded.{codes};
+    ghost use Rattle.cluster_core.specs.TierCode.{map_code};
     ghost use Rattle.shell.specs.Held.{held_state};
 
     ghost Value = { StepwiseState };
 
-    ghost coded = { Prim.hlevel (codes, command.the_row.coded, plan.the_row.coded) };
+    ghost coded = { Prim.hlevel (codes, map_code, command.the_row.coded, plan.the_row.coded) };
 
     ghost view = { λ d. held_state d.held };
 }

@@ -1,6 +1,6 @@
 use denote.Param.Send.{sendable}
 use Rattle.std.proofs.Crossing.{crosses}
-use Rattle.runtime.proofs.critical_section.Waits.TheSendSync as waits
+use Rattle.runtime.proofs.locked_state.Waits.TheSendSync as waits
 use Rattle.bench_threads.proofs.Jobs.{job_send}
 use Rattle.bench_threads.proofs.threads.counts.Goals as goal
 

@@ -2,11 +2,11 @@ use Rattle.std.proofs.Common.{◌≡◌, ℕ, ◌-◌, ◌≤◌, List, sym, ap,
 use Rattle.cluster_core.specs.declared.answers.Config.{Config}
 use Rattle.cluster_core.specs.Tier.{TierState, whole_map}
 use Rattle.cluster_core.specs.Refusing.{MayRefuse}
+use Rattle.schedule.specs.Known.{IsKnown, StaysKnown}
 use Rattle.schedule.specs.Performed.{IsCommandStopped, IsPerformed}
 use Rattle.runtime.specs.declared.log_entry.Entry.{Entry}
 use Rattle.runtime.specs.declared.performed.Performed.{Performed}
-use Rattle.runtime.specs.declared.trace.Trace.{Trace}
-use Rattle.runtime.specs.Traces.{with_performed}
+use Rattle.runtime.specs.Traces.{Trace, with_performed}
 use Rattle.runtime.specs.History.{Name}
 use Rattle.runtime.specs.Logs.{IsOpenOver, version_of, log_tier}
 use Rattle.runtime.specs.Serves.{IsAnswer}
@@ -37,7 +37,9 @@ module _ (c : goal.After-add) where
   tier = c.requires.state.0.0 ∙ ap (λ (n : Name). log_tier n.config ys) c.requires.state.1
 
   performed : IsPerformed c.args.trace.now.store (whole_map (log_tier config ys)) (λ range. MayRefuse (log_tier config ys) range c.args.tx.now.read_version) c.args.command.now c.in-Ok.reply c.args.tx.now c.perform_open.new.tx
-  performed = subst (λ (t : TierState). IsPerformed c.args.trace.now.store (whole_map t) (λ range. MayRefuse t range c.args.tx.now.read_version) c.args.command.now c.in-Ok.reply c.args.tx.now c.perform_open.new.tx) tier c.in-Ok.ensures.performed
+  performed =
+      subst (λ (s : ℕ). IsPerformed s (whole_map (log_tier config ys)) (λ range. MayRefuse (log_tier config ys) range c.args.tx.now.read_version) c.args.command.now c.in-Ok.reply c.args.tx.now c.perform_open.new.tx) c.store.ensures
+      (subst (λ (t : TierState). IsPerformed c.store.result (whole_map t) (λ range. MayRefuse t range c.args.tx.now.read_version) c.args.command.now c.in-Ok.reply c.args.tx.now c.perform_open.new.tx) tier c.in-Ok.ensures.performed)
 
   right : IsOpenOver config log c.perform_open.new.tx (with_performed c.args.trace.now one) × IsAnswer config log c.args.tx.now c.args.trace.now c.args.command.now c.in-Ok.reply × (c.perform_open.new.tx.read_version ≡ c.args.tx.now.read_version)
   right = answers_right config log ys c.args.tx.now c.perform_open.new.tx c.args.trace.now c.args.command.now c.in-Ok.reply c.version.ensures.well_formed c.if-not-begins.ensures c.requires.over from near performed
@@ -56,7 +58,8 @@ returns-in-Err-clause-over c =
     let at : c.args.tx.now.read_version ≡ version_of config log = c.requires.at in
     let near : version_of config ys - c.args.tx.now.read_version ≤ config.window = subst (λ (v : ℕ). version_of config ys - v ≤ config.window) (sym at) (subst (λ (n : Name). version_of n.config ys - version_of config log ≤ config.window) c.requires.state.1 (c.if-not-is_near.ensures.0 refl)) in
     let tier : c.args.state.now.tier ≡ log_tier config ys = c.requires.state.0.0 ∙ ap (λ (n : Name). log_tier n.config ys) c.requires.state.1 in
-    let is : IsCommandStopped c.args.trace.now.store (whole_map (log_tier config ys)) c.args.command.now c.args.tx.now c.perform_open.new.tx = subst (λ (t : TierState). IsCommandStopped c.args.trace.now.store (whole_map t) c.args.command.now c.args.tx.now c.perform_open.new.tx) tier c.in-Err.ensures.stopped in
+    let there : IsCommandStopped c.store.result (whole_map (log_tier config ys)) c.args.command.now c.args.tx.now c.perform_open.new.tx = subst (λ (t : TierState). IsCommandStopped c.store.result (whole_map t) c.args.command.now c.args.tx.now c.perform_open.new.tx) tier c.in-Err.ensures.stopped in
+    let is : IsCommandStopped c.args.trace.now.store (whole_map (log_tier config ys)) c.args.command.now c.args.tx.now c.perform_open.new.tx = subst (λ (s : ℕ). IsCommandStopped s (whole_map (log_tier config ys)) c.args.command.now c.args.tx.now c.perform_open.new.tx) c.store.ensures there in
     subst (λ (trace : Trace). IsOpenOver config log c.perform_open.new.tx trace) (sym c.add-in-Err.ensures)
     (stops_right config log ys c.args.tx.now c.perform_open.new.tx c.args.trace.now c.args.command.now c.if-not-begins.ensures c.requires.over (omega (arith, at)) near is).0
 
@@ -64,18 +67,21 @@ returns-in-Err-clause-over c =
 
 pub perform_open-requires : goal.perform_open-requires
 perform_open-requires c = record {
-  known = known_there c.args.prefix.now c.args.state.now.prefix c.args.state.now.tier c.args.trace.now c.args.tx.now c.args.known.now.store
-      (record { named = c.requires.state.1; pulled = c.requires.state.0.0; begins = c.if-not-begins.ensures; near = c.if-not-is_near.ensures.0 refl; over = c.requires.over; at = c.requires.at }) c.requires.known;
+  known = subst (λ (s : ℕ). IsKnown s (whole_map c.args.state.now.tier) c.args.known.now.store c.args.tx.now) (sym c.store.ensures)
+      (known_there c.args.prefix.now c.args.state.now.prefix c.args.state.now.tier c.args.trace.now c.args.tx.now c.args.known.now.store
+      (record { named = c.requires.state.1; pulled = c.requires.state.0.0; begins = c.if-not-begins.ensures; near = c.if-not-is_near.ensures.0 refl; over = c.requires.over; at = c.requires.at }) c.requires.known);
 }
 
 pub returns-in-Ok-clause-known : goal.returns-in-Ok-clause-known
 returns-in-Ok-clause-known c =
     known_here c.args.prefix.now c.args.state.now.prefix c.args.state.now.tier c.args.trace.now c.args.tx.now c.perform_open.new.tx c.perform_open.new.known.store
     (record { named = c.requires.state.1; pulled = c.requires.state.0.0; begins = c.if-not-begins.ensures; near = c.if-not-is_near.ensures.0 refl; over = c.requires.over; at = c.requires.at })
-    c.version.ensures.well_formed (right c).2 c.in-Ok.ensures.known
+    c.version.ensures.well_formed (right c).2
+    (subst (λ (s : ℕ). StaysKnown s (whole_map c.args.state.now.tier) c.perform_open.new.known.store c.args.tx.now c.perform_open.new.tx) c.store.ensures c.in-Ok.ensures.known)
 
 pub returns-in-Err-clause-known : goal.returns-in-Err-clause-known
 returns-in-Err-clause-known c =
     known_here c.args.prefix.now c.args.state.now.prefix c.args.state.now.tier c.args.trace.now c.args.tx.now c.perform_open.new.tx c.perform_open.new.known.store
     (record { named = c.requires.state.1; pulled = c.requires.state.0.0; begins = c.if-not-begins.ensures; near = c.if-not-is_near.ensures.0 refl; over = c.requires.over; at = c.requires.at })
-    c.version.ensures.well_formed c.in-Err.ensures.stopped.ran.version c.in-Err.ensures.known
+    c.version.ensures.well_formed c.in-Err.ensures.stopped.ran.version
+    (subst (λ (s : ℕ). StaysKnown s (whole_map c.args.state.now.tier) c.perform_open.new.known.store c.args.tx.now c.perform_open.new.tx) c.store.ensures c.in-Err.ensures.known)

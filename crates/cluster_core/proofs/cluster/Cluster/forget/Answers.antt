@@ -11,7 +11,7 @@ forget_before-requires-clause-from c =
     let t = c.self.inside.tier in
     let n = c.pulled_by_all-done.ensures ∙ (λ i. done_with_by (c.start.ensures i) (c.done_with.ensures.value i) (clocks_of t)) in
     subst (λ n. p.forgotten ≤ n) (sym n)
-    (done-from p t (done_with p) c.self.invariant (subst (λ n. p.forgotten ≤ n) c.done_with.ensures.value c.done_with.ensures.forgotten))
+    (done-from c.self.inside.base.map p t (done_with p) c.self.invariant (subst (λ n. p.forgotten ≤ n) c.done_with.ensures.value c.done_with.ensures.forgotten))
 
 pub forget_before-requires-clause-upto : goal.forget_before-requires-clause-upto
 forget_before-requires-clause-upto c =
@@ -25,14 +25,14 @@ invariant_of-self c =
     let p = c.self.inside.pipeline in
     let t = c.self.inside.tier in
     let n = c.pulled_by_all-done.ensures ∙ (λ i. done_with_by (c.start.ensures i) (c.done_with.ensures.value i) (clocks_of t)) in
-    subst (λ q. IsCluster q t) (sym (c.forget_before.ensures ∙ ap (λ n. record p { forgotten = n }) n)) (forgot-cluster p t (done_with p) c.self.invariant)
+    subst (λ q. IsCluster c.self.inside.base.map q t) (sym (c.forget_before.ensures ∙ ap (λ n. record p { forgotten = n }) n)) (forgot-cluster c.self.inside.base.map p t (done_with p) c.self.invariant)
 
 pub returns-clause-step : goal.returns-clause-step
 returns-clause-step c =
     let p = c.self.inside.pipeline in
     let t = c.self.inside.tier in
     let n = c.pulled_by_all-done.ensures ∙ (λ i. done_with_by (c.start.ensures i) (c.done_with.ensures.value i) (clocks_of t)) in
-    ap (λ q. cluster_of q t) (c.forget_before.ensures ∙ ap (λ n. record p { forgotten = n }) n) ∙ ap forget c.self.view_is
+    ap (λ q. cluster_of c.self.inside.base.map q t) (c.forget_before.ensures ∙ ap (λ n. record p { forgotten = n }) n) ∙ ap forget c.self.view_is
 
 pub returns-clause-roles : goal.returns-clause-roles
 returns-clause-roles c =

@@ -7,5 +7,5 @@ use Rattle.cluster_core.proofs.cluster.Cluster.read.Goals as goal
 pub returns-clause-pairs : goal.returns-clause-pairs
 returns-clause-pairs c =
     c.in_ok-pairs.ensures.pairs
-    ∙ read-cluster c.self.inside.pipeline c.self.inside.tier c.args.range.now c.args.version c.args.limit c.args.reverse c.self.invariant c.in_ok-pairs.ensures.allowed
+    ∙ read-cluster c.self.inside.base.map c.self.inside.pipeline c.self.inside.tier c.args.range.now c.args.version c.args.limit c.args.reverse c.self.invariant c.in_ok-pairs.ensures.allowed
     ∙ ap (λ state. read_of (database_at state c.args.version) c.args.range.now c.args.limit c.args.reverse) c.self.view_is

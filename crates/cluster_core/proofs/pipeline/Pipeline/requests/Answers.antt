@@ -1,5 +1,5 @@
 use Rattle.std.proofs.Common.{◌∙◌, ◌+◌, ◌-◌, ◌≤◌, ap, arith, subst}
-use Rattle.cluster_core.specs.History.{IsLegal}
+use Rattle.cluster_core.specs.History.{IsLegalOver}
 use Rattle.cluster_core.specs.Roles.{done_with, history, kept}
 use Rattle.cluster_core.proofs.Standing.{legal}
 use Rattle.cluster_core.proofs.pipeline.Pipeline.requests.Goals as goal
@@ -15,4 +15,4 @@ returns-clause-needed c =
     subst (λ p. p.forgotten ≤ done_with p) c.self.view_is upto
 
 pub returns-clause-legal : goal.returns-clause-legal
-returns-clause-legal c = subst (λ p. IsLegal (history p)) c.self.view_is (legal _ _ _ _ _ _ _ c.self.invariant)
+returns-clause-legal c base = subst (λ p. IsLegalOver base (history p)) c.self.view_is (legal _ _ _ _ _ _ _ c.self.invariant base)

@@ -4,7 +4,7 @@ use Rattle.schedule.proofs.database.Database.perform.Goals as goal
 
 pub returns-in_ok-reply-in-Some : goal.returns-in_ok-reply-in-Some
 returns-in_ok-reply-in-Some c =
-    perform_steps c.args.self.now _ c.args.client c.args.command.now c.in_ok-reply-in-Some.reply c.index_mut.result.now c.in-Some.transaction c.perform.new.self (omega arith) c.index_mut.ensures.value
+    perform_steps c.args.self.now _ c.args.stays_open c.requires.held c.args.client c.args.command.now c.in_ok-reply-in-Some.reply c.index_mut.result.now c.in-Some.transaction c.perform.new.self (omega arith) c.index_mut.ensures.value
     c.in-Some.is c.laws_of.ensures.legal c.in_ok-reply-in-Some.ensures
     (record { cluster = refl; transactions = refl; unreported = refl; commits = refl })
 
@@ -14,4 +14,4 @@ returns-in-None c =
     (record { cluster = refl; transactions = refl; unreported = refl; commits = refl })
 
 pub perform-requires : goal.perform-requires
-perform-requires c = known_there c.args.self.now c.args.client c.index_mut.result.now c.in-Some.transaction (omega arith) c.index_mut.ensures.value c.in-Some.is c.requires
+perform-requires c = known_there c.args.self.now c.args.client c.index_mut.result.now c.in-Some.transaction (omega arith) c.index_mut.ensures.value c.in-Some.is c.requires.stands

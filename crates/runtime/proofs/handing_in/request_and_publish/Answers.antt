@@ -1,6 +1,6 @@
 use Rattle.runtime.specs.Outcomes.{next_entry}
 use Rattle.runtime.proofs.Handled.{shows_by}
-use Rattle.runtime.proofs.critical_section.request_and_publish.Goals as goal
+use Rattle.runtime.proofs.handing_in.request_and_publish.Goals as goal
 
 pub returns-clause-shows : goal.returns-clause-shows
 returns-clause-shows g c =

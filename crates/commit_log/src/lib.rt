@@ -1,0 +1,6 @@
+//! The log of a running database, on a device: what is committed is there before it is shown.
+#![tactic(auto)]
+
+mod device_log;
+
+pub use device_log::{DeviceLog, NotBegun, begin_log};
