@@ -4,7 +4,6 @@ pub mod Longer
 pub mod Losing
 pub mod Logs
 pub mod Whys
-pub mod Repeats
 pub mod Stepping
 pub mod Versions
 pub mod Even

@@ -1,13 +1,15 @@
 -- What holds of all that is logged.
 use Rattle.std.specs.Prelude.{◌≡◌, List, [], map}
 use Rattle.cluster_core.specs.declared.answers.Config.{Config}
+use Rattle.kv_core.specs.Map.{Map}
+use Rattle.cluster_core.specs.Configuration.{first_cluster_over}
 use Rattle.cluster_core.specs.History as histories
 use Rattle.schedule.specs.declared.reply.Reply.{Reply}
 use Rattle.schedule.specs.declared.step.Step.{Step}
 use Rattle.schedule.specs.Contract.{past_of}
 use Rattle.schedule.specs.Past.{Submission, submitted_in}
 use Rattle.schedule.specs.Standing.{listed}
-use Rattle.schedule.specs.Stepwise.{HasDone, StepwiseState}
+use Rattle.schedule.specs.Stepwise.{HasDoneFrom, StepwiseState}
 use Rattle.replay.specs.Histories.{TellsOfCommit}
 use Rattle.logged_schedule.specs.Entries.{logged_as, logged_in}
 use Rattle.logged_schedule.specs.Runs.{LosesNone}
@@ -18,11 +20,11 @@ EntriesTell =
     (one : Submission) (committed : histories.Entry) → committed.version ≡ one.version →
     TellsOfCommit one.transaction committed (logged_as one)
 
--- LOGGED: whatever steps a schedule has done, none of whose reports is lost: the entries that were told are just those
+-- LOGGED: whatever steps a schedule has done over whatever base, none of whose reports is lost: the entries that were told are just those
 -- of the transactions that are listed as committed, in the order of versions
 abbrev pub LogsCommits : Type 0
 LogsCommits =
-    (config : Config) (done : List Step) (replies : List Reply) (state : StepwiseState) →
-    HasDone config done replies state → LosesNone done →
+    (base : Map) (config : Config) (done : List Step) (replies : List Reply) (state : StepwiseState) →
+    HasDoneFrom (first_cluster_over base config) done replies state → LosesNone done →
     (let past = past_of [] done replies in
     logged_in past ≡ map logged_as (listed state.database.cluster.pipeline (submitted_in past)))

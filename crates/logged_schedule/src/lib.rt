@@ -1,5 +1,5 @@
-//! A schedule whose commits are in a log on a disk before they are told, and performed again as
-//! steps where it is opened.
+//! A schedule whose commits are in a log on a disk before they are told, and performed again where
+//! it is opened.
 #![tactic(auto)]
 
 mod again;
