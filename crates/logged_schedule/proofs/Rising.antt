@@ -10,6 +10,7 @@ use Rattle.cluster_core.specs.Cluster.{ClusterState, pull, with_pipeline}
 use Rattle.cluster_core.specs.Roles.{PipelineState, append, report, resolve}
 use Rattle.command_log.specs.declared.entry.Entry.{Entry}
 use Rattle.replay.specs.Logged.{ComeInOrder, IsLawfulLog, last_version, log_database}
+use Rattle.replay.proofs.Stores.{holds_nothing}
 use Rattle.schedule.specs.declared.reply.Reply.{Reply}
 use Rattle.schedule.specs.declared.reply.Reply.TheVariants as answers
 use Rattle.schedule.specs.declared.reply.Report.{Report}
@@ -23,7 +24,7 @@ use Rattle.schedule.specs.Stepwise.{HasDoneFrom, StepwiseState}
 use Rattle.schedule.proofs.Submitting.{AreVersioned}
 use Rattle.logged_schedule.specs.Entries.{logged_as, logged_in, newly_logged, reports_in, told_first, waiting_in}
 use Rattle.logged_schedule.specs.Keeping.{VersionsRise}
-use Rattle.logged_schedule.specs.Runs.{LosesNone, Run, first_of, past_in}
+use Rattle.logged_schedule.specs.Runs.{IsHeldLog, LosesNone, Run, first_of, past_in}
 use Rattle.logged_schedule.proofs.Even.{IsEven, drop_length}
 use Rattle.logged_schedule.proofs.Listed.{even_done}
 use Rattle.logged_schedule.proofs.Longer.{longer_past}
@@ -238,6 +239,10 @@ lawful_rise entries lawful = in_order_rise 0 entries lawful.in_order
 no_less : (version : ℕ) (entries : List Entry) → ComeInOrder version entries → version ≤ last_version version entries
 no_less version [] order = omega arith
 no_less version (entry ∷ entries) (above, lawful, order) = let rest = no_less entry.version entries order in omega (arith, above, rest)
+
+-- one without entries holds no stores
+pub none_held : IsHeldLog []
+none_held = record { lawful = record { in_order = tt; replayable = tt }; holds = holds_nothing }
 
 -- one whose last version is 0 has no entries
 pub none_logged : (entries : List Entry) → IsLawfulLog entries → last_version 0 entries ≡ 0 → entries ≡ []

@@ -5,7 +5,7 @@ use Rattle.journal.specs.Form.{blocks}
 use Rattle.journal.specs.declared.device.Device.{Ghosts}
 use Rattle.command_log.specs.Form.{bytes_of_entry}
 use Rattle.command_log.specs.declared.entry.Entry.{Entry}
-use Rattle.replay.specs.Logged.{IsLawfulLog, last_version}
+use Rattle.replay.specs.Logged.{last_version}
 use Rattle.schedule.specs.declared.reply.Reply.{Reply}
 use Rattle.schedule.specs.declared.step.Step.{Step}
 use Rattle.schedule.specs.Stepwise.{DoesNext, StepwiseState}
@@ -14,7 +14,7 @@ use Rattle.logged_schedule.specs.declared.error.StepError.{StepError}
 use Rattle.logged_schedule.specs.declared.error.StepError.TheVariants as stops
 use Rattle.logged_schedule.specs.declared.logged.LoggedSchedule.{LoggedSchedule}
 use Rattle.logged_schedule.specs.Entries.{logged_in, newly_logged}
-use Rattle.logged_schedule.specs.Runs.{Run, done_as, past_in, told_as, with_step}
+use Rattle.logged_schedule.specs.Runs.{IsHeldLog, Run, done_as, past_in, told_as, with_step}
 use Rattle.logged_schedule.specs.Standing.{HasFollowed, device_with_log, schedule_of}
 
 -- the versions of entries rise, from above this one on
@@ -22,14 +22,14 @@ abbrev pub VersionsRise : ℕ → List Entry → Type 0
 VersionsRise version [] = ⊤
 VersionsRise version (entry ∷ entries) = (version < entry.version) × VersionsRise entry.version entries
 
--- KEEPS: a schedule has done a run over what a lawful log comes to; the file has the log of these entries, all of it on
--- the disk: those of that log, and then just what the run has committed; their versions rise, up to the last one that is
--- reported at most
+-- KEEPS: a schedule has done a run over what a lawful log comes to, whose stores it holds; the file has the log of these
+-- entries, all of it on the disk: those of that log, and then just what the run has committed; their versions rise, up
+-- to the last one that is reported at most
 pub record KeepsRun {D : Type 0} {G : Ghosts D} (seen : D → List ℕ) (may_leave : D → List ℕ → Type 0) (run : Run)
     (entries : List Entry) (logged : LoggedSchedule D G) : Type 0 where
   pub done : HasFollowed run logged.followed
   pub disk : HasOnDisk seen may_leave no_base entries (device_with_log logged)
-  pub lawful : IsLawfulLog run.before
+  pub over : IsHeldLog run.before
   pub says : entries ≡ run.before ++ logged_in (past_in run)
   pub rise : VersionsRise 0 entries
   pub upto : last_version 0 entries ≤ (schedule_of logged).database.cluster.pipeline.reported

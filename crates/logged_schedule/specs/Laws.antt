@@ -20,8 +20,8 @@ EntriesTell =
     (one : Submission) (committed : histories.Entry) → committed.version ≡ one.version →
     TellsOfCommit one.transaction committed (logged_as one)
 
--- LOGGED: whatever steps a schedule has done over whatever base, none of whose reports is lost: the entries that were told are just those
--- of the transactions that are listed as committed, in the order of versions
+-- LOGGED: whatever steps a schedule has done over whatever base, none of whose reports is lost: the entries that were
+-- told are just those of the transactions that are listed as committed, in the order of versions
 abbrev pub LogsCommits : Type 0
 LogsCommits =
     (base : Map) (config : Config) (done : List Step) (replies : List Reply) (state : StepwiseState) →

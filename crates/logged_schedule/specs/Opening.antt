@@ -4,7 +4,7 @@ use Rattle.cluster_core.specs.Configuration.{first_cluster_over}
 use Rattle.cluster_core.specs.declared.answers.Config.{Config}
 use Rattle.command_log.specs.declared.entry.Entry.{Entry}
 use Rattle.journal.specs.declared.device.Device.{Ghosts}
-use Rattle.replay.specs.Logged.{IsLawfulLog, last_version, log_database}
+use Rattle.replay.specs.Logged.{last_version, log_database}
 use Rattle.replay.specs.Replaying.{AreWrittenAs}
 use Rattle.schedule.specs.declared.reply.Reply.{Reply}
 use Rattle.schedule.specs.declared.step.Step.{Step}
@@ -13,6 +13,7 @@ use Rattle.durable.specs.Keeping.{HasLogOf, no_base}
 use Rattle.logged_schedule.specs.declared.followed.Followed.{Followed}
 use Rattle.logged_schedule.specs.declared.logged.LoggedSchedule.{LoggedSchedule}
 use Rattle.logged_schedule.specs.Keeping.{KeepsRun}
+use Rattle.logged_schedule.specs.Runs.{IsHeldLog}
 use Rattle.logged_schedule.specs.Standing.{BeginsFollowed, run_over}
 
 -- the version at which a schedule begins over a log: the first one, or that of the last entry, if that is later
@@ -27,10 +28,10 @@ from_version start config = record config { start = start }
 abbrev pub config_after : List Entry → Config → Config
 config_after entries config = from_version (start_after config.start entries) config
 
--- a schedule of a configuration has done these steps over what a lawful log comes to
+-- a schedule of a configuration has done these steps over what a lawful log comes to, whose stores it holds
 abbrev pub HasDoneOverLog : Config → List Step → List Reply → StepwiseState → Type 0
 HasDoneOverLog config steps replies state =
-    (log : List Entry) × IsLawfulLog log
+    (log : List Entry) × IsHeldLog log
     × HasDoneFrom (first_cluster_over (log_database log).map config) steps replies state
 
 -- REOPENED: the file has the log of some entries, which are lawful, and the schedule has done nothing yet over what they
@@ -45,5 +46,5 @@ pub record IsOpenedAgain {D : Type 0} {G : Ghosts D} (seen : D → List ℕ) (ma
 pub record IsBegunAgain (config : Config) (log : List (List ℕ)) (followed : Followed) : Type 0 where
   pub entries : List Entry
   pub written : AreWrittenAs log entries
-  pub lawful : IsLawfulLog entries
+  pub over : IsHeldLog entries
   pub follows : BeginsFollowed entries (config_after entries config) followed

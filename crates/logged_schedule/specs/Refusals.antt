@@ -3,7 +3,9 @@ use Rattle.std.specs.Prelude.{◌≡◌, ◌<◌, ℕ, List, [], Some, ⊤}
 use Rattle.cluster_core.specs.Configuration.{config_refusal}
 use Rattle.cluster_core.specs.declared.answers.Config.{Config}
 use Rattle.journal.specs.Journal.{damage_read, entries_read}
-use Rattle.replay.specs.Replaying.{IsWhyOn}
+use Rattle.replay.specs.Replaying.{IsNoLogOn, IsWhyOn}
+use Rattle.replay.specs.declared.error.ReplayError.{ReplayError}
+use Rattle.replay.specs.declared.error.ReplayError.TheVariants as replays
 use Rattle.logged_schedule.specs.declared.error.OpenError.{OpenError}
 use Rattle.logged_schedule.specs.declared.error.OpenError.TheVariants as opens
 
@@ -13,9 +15,14 @@ IsNotBegun config opens.Memory = ⊤
 IsNotBegun config (opens.Config why) = config_refusal config ≡ Some why
 IsNotBegun config error = ⊥
 
--- Private: so it is, or the log isn't replayed at a place, for a reason
+-- these are the bytes of no lawful log: at this place it isn't replayed, for this reason. Want of memory is none
+abbrev pub IsNoLogFor : List (List ℕ) → ReplayError → Type 0
+IsNoLogFor log replays.Memory = ⊥
+IsNoLogFor log why = IsNoLogOn [] log × IsWhyOn [] log why
+
+-- Private: so it is, or these are the bytes of no lawful log
 abbrev pub IsNotBegunAgain : Config → List (List ℕ) → OpenError → Type 0
-IsNotBegunAgain config log (opens.Unreplayed why) = IsWhyOn [] log why
+IsNotBegunAgain config log (opens.Unreplayed why) = IsNoLogFor log why
 IsNotBegunAgain config log error = IsNotBegun config error
 
 -- the configuration is refused; the device has failed once more; the file is damaged there; what it has isn't a lawful
@@ -25,4 +32,4 @@ IsNoneOpened config faults faults_now file opens.Memory = ⊤
 IsNoneOpened config faults faults_now file (opens.Config why) = config_refusal config ≡ Some why
 IsNoneOpened config faults faults_now file opens.Failed = faults < faults_now
 IsNoneOpened config faults faults_now file (opens.Damage at) = damage_read file ≡ Some at
-IsNoneOpened config faults faults_now file (opens.Unreplayed why) = IsWhyOn [] (entries_read file) why
+IsNoneOpened config faults faults_now file (opens.Unreplayed why) = IsNoLogFor (entries_read file) why

@@ -23,10 +23,12 @@ pub(crate) fn begun_again(
     ensures undone { IfErr result (IsNotBegunAgain config (log_bytes log.now)) }
 {
     let image = replay(alloc, log)?;
+    let last = image.version();
     let mut config = config;
-    config.start = config.start.max(image.version());
-    if image.version() == 0 {
+    config.start = config.start.max(last);
+    if last == 0 {
+        // Nothing is logged, and a base has no version 0.
         return Followed::new(alloc, &config);
     }
-    Followed::over(alloc, &config, &image)
+    Followed::over(alloc, &config, image)
 }

@@ -68,7 +68,10 @@ impl From<ReplayError> for OpenError {
     fn from(error: ReplayError) -> OpenError {
         match error {
             ReplayError::Memory => OpenError::Memory,
-            error => OpenError::Unreplayed(error),
+            ReplayError::NotAnEntry(_, _)
+            | ReplayError::OutOfOrder(_)
+            | ReplayError::NoSuchStore(_)
+            | ReplayError::Refused(_, _) => OpenError::Unreplayed(error),
         }
     }
 }

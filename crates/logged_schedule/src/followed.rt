@@ -47,15 +47,16 @@ impl Followed {
     }
 
     // One over what a lawful log has come to.
-    pub(crate) fn over(alloc: Global, config: &Config, image: &Image) -> Result<Followed, OpenError>
+    pub(crate) fn over(alloc: Global, config: &Config, image: Image) -> Result<Followed, OpenError>
         requires start { 1 ≤ config.now.start }
-        requires logged { (entries : List EntryValue) × IsLogged entries image.now }
-        ensures begun { IfOk result (λ followed. (entries : List EntryValue) → IsLogged entries image.now
-            → BeginsFollowed entries config.now followed) }
+        requires logged { (entries : List EntryValue) × IsLogged entries image }
+        ensures begun { IfOk result (λ followed. (entries : List EntryValue)
+            → IsLogged entries image → BeginsFollowed entries config.now followed) }
         ensures allowed { OnOk result (IsNone (config_refusal config.now)) }
         ensures refused { IfErr result (IsNotBegun config.now) }
     {
         let pairs = image.pairs(alloc)?;
+        drop(image);
         let schedule = Schedule::over(alloc, config, pairs, true)?;
         let following = Following::new(alloc)?;
         Ok(Followed {

@@ -12,11 +12,11 @@ over-requires-clause-stores c yes =
     let entries = c.requires.logged.0 in
     let is = c.requires.logged.1 in
     let stores = (log_database entries).stores in
-    (stores, subst (λ m. HoldsAll m stores) (sym (ap from_entries c.in_ok-pairs.ensures ∙ pairs_suffice entries c.args.image.now is)) is.holds)
+    (stores, subst (λ m. HoldsAll m stores) (sym (ap from_entries c.in_ok-pairs.ensures ∙ pairs_suffice entries c.args.image is)) is.holds)
 
 pub returns-clause-begun : goal.returns-clause-begun
 returns-clause-begun c entries is =
-    let same = ap from_entries c.in_ok-pairs.ensures ∙ pairs_suffice entries c.args.image.now is ∙ is.map in
+    let same = ap from_entries c.in_ok-pairs.ensures ∙ pairs_suffice entries c.args.image is ∙ is.map in
     record {
       done = subst (λ m. HasDoneFrom (first_cluster_over m c.args.config.now) [] [] c.in_ok-schedule.schedule) same c.in_ok-schedule.ensures.begun;
       follows = c.in_ok-following.ensures;
