@@ -9,3 +9,7 @@ pub mod Versions
 pub mod Even
 pub mod Listed
 pub mod Rising
+pub mod Looking
+pub mod Limits
+pub mod Fitting
+pub mod Lawful

@@ -96,7 +96,7 @@ even_commit first R past client (answers.Submitted v) even right within = by_cli
 
 -- ---- a step
 
-even_next : (first : ClusterState) (R : List CommitRequest) (past : Past) (step : Step) (reply : Reply) → IsEven R (cluster_from first R past).pipeline past → IsReplyTo (cluster_from first R past) past step reply → done_as step ≡ step →
+pub even_next : (first : ClusterState) (R : List CommitRequest) (past : Past) (step : Step) (reply : Reply) → IsEven R (cluster_from first R past).pipeline past → IsReplyTo (cluster_from first R past) past step reply → done_as step ≡ step →
     length (submitted_in ((step, reply) ∷ past)) ≤ length R → IsEven R (cluster_from first R ((step, reply) ∷ past)).pipeline ((step, reply) ∷ past)
 even_next first R past (steps.Begin client store) reply even right kept within = record { requests = even.requests; versions = even.versions; begun = even.begun; given = even.given; waits = even.waits; logs = append-nil (logged_in past) ∙ even.logs }
 even_next first R past (steps.Perform client command) reply even right kept within = record { requests = even.requests; versions = even.versions; begun = even.begun; given = even.given; waits = even.waits; logs = append-nil (logged_in past) ∙ even.logs }
@@ -209,7 +209,7 @@ even_next first R past steps.Settle reply even right kept within = subst (λ r. 
 
 -- ---- steps, one after another
 
-submitted_grows : (past : Past) (done : List Step) (replies : List Reply) → length (submitted_in past) ≤ length (submitted_in (past_of past done replies))
+pub submitted_grows : (past : Past) (done : List Step) (replies : List Reply) → length (submitted_in past) ≤ length (submitted_in (past_of past done replies))
 submitted_grows past [] replies = omega arith
 submitted_grows past (step ∷ done) [] = omega arith
 submitted_grows past (step ∷ done) (reply ∷ replies) =
@@ -226,7 +226,21 @@ even_run first R past (step ∷ done) (reply ∷ replies) each none within even 
     let rest : length (submitted_in ((step, reply) ∷ past)) ≤ length (submitted_in (past_of ((step, reply) ∷ past) done replies)) = submitted_grows ((step, reply) ∷ past) done replies in
     even_run first R ((step, reply) ∷ past) done replies each.1 (ap (drop 1) none) within (even_next first R past step reply even each.0 (ap (λ l. get_or l 0 step) none) (omega (arith, rest, within)))
 
--- so it stands beside what a schedule has done
+-- so it stands at the start
+pub even_none : (base : Map) (config : Config) (R : List CommitRequest) → IsEven R (first_cluster_over base config).pipeline []
+even_none base config R =
+    let no_subs : List Submission = [] in
+    let none_yet : config.start - config.start ≡ 0 = omega arith in
+    record {
+      requests = refl;
+      versions = tt;
+      begun = omega arith;
+      given = omega arith;
+      waits = ap (λ n. drop n no_subs) (sym none_yet);
+      logs = ap (λ n. map logged_as (filter (told_so (first_cluster_over base config).pipeline) (take n no_subs))) (sym none_yet);
+    }
+
+-- and beside what a schedule has done
 pub even_done : (base : Map) (config : Config) (done : List Step) (replies : List Reply) (state : StepwiseState) → HasDoneFrom (first_cluster_over base config) done replies state → LosesNone done → IsEven (state.database.cluster.pipeline.requests ++ []) state.database.cluster.pipeline (past_of [] done replies)
 even_done base config done replies state has none =
     let requests = state.database.cluster.pipeline.requests in
@@ -236,17 +250,7 @@ even_done base config done replies state has none =
     let same : (cluster_from (first_cluster_over base config) R past).pipeline ≡ last = ap (λ (c : ClusterState). c.pipeline) (has.0.cluster []) in
     let count : length (submitted_in past) ≡ length requests = submitted_length (database_at state.database.cluster) last.reported last.start (submitted_in past) requests has.0.stands.submitted in
     let all : length R ≡ length requests = ap length (append-nil requests) in
-    let no_subs : List Submission = [] in
-    let none_yet : config.start - config.start ≡ 0 = omega arith in
-    let begun : IsEven R (first_cluster_over base config).pipeline [] = record {
-      requests = refl;
-      versions = tt;
-      begun = omega arith;
-      given = omega arith;
-      waits = ap (λ n. drop n no_subs) (sym none_yet);
-      logs = ap (λ n. map logged_as (filter (told_so (first_cluster_over base config).pipeline) (take n no_subs))) (sym none_yet);
-    } in
-    subst (λ p. IsEven R p past) same (even_run (first_cluster_over base config) R [] done replies (has.0.right []) none (omega (arith, count, all)) begun)
+    subst (λ p. IsEven R p past) same (even_run (first_cluster_over base config) R [] done replies (has.0.right []) none (omega (arith, count, all)) (even_none base config R))
 
 -- LOGGED: it is what is listed
 pub logs_commits : LogsCommits

@@ -84,6 +84,7 @@ module _ {D : Type 0} {G : Ghosts D} (seen : D → List ℕ) (may_leave : D → 
           done = subst (HasFollowed (with_step run (done_as step) is.reply)) (sym same) (is.follows run keeps.done);
           disk = appended_batch seen may_leave moment left_since entries more (log_bytes answer.batch.items) (device_with_log before) (device_with_log after) keeps.disk written stands durable;
           over = keeps.over;
+          from = keeps.from;
           says =
               ap (λ es. es ++ more) keeps.says ∙ append_assoc run.before (logged_in (past_in run)) more
               ∙ ap (λ past. run.before ++ logged_in past) (sym (longer_past run (done_as step) is.reply (schedule_of before) keeps.done.done));
@@ -140,6 +141,7 @@ module _ {D : Type 0} {G : Ghosts D} (seen : D → List ℕ) (may_leave : D → 
           done = subst (HasFollowed (run_over entries (config_after entries config))) (sym is_followed) again.follows;
           disk = subst (HasOnDisk seen may_leave no_base entries) (sym is_device) (record { file = (entries_read file, written, stands); durable = durable });
           over = again.over;
+          from = omega arith;
           says = sym (append-nil entries);
           rise = lawful_rise entries again.over.lawful;
           upto = subst (λ (f : Followed). last_version 0 entries ≤ f.schedule.database.cluster.pipeline.reported) (sym is_followed) (omega (arith, start, begun));
