@@ -1,8 +1,8 @@
 -- So it is with all that clients have open or have submitted, after whatever steps.
-use Rattle.std.proofs.Common.{◌≡◌, ◌∙◌, ◌==◌, ℕ, ◌+◌, ◌-◌, ◌<◌, ◌≤◌, Bool, true, false, cond, List, [], ◌∷◌, ◌++◌, Option, Some, None, length, take, drop, get_or, nat_lt, refl, sym, ap, subst, append-nil, arith}
+use Rattle.std.proofs.Common.{◌≡◌, ◌∙◌, ◌==◌, ℕ, ◌+◌, ◌-◌, ◌<◌, ◌≤◌, Bool, true, false, cond, List, [], ◌∷◌, ◌++◌, Option, Some, None, length, drop, get_or, nat_lt, refl, sym, ap, subst, append-nil, arith}
 use Rattle.std.specs.List.{AllByRecursion}
 use Rattle.std.proofs.lemmas.Bool.{eqb-true, true≢false}
-use Rattle.std.proofs.lemmas.List.{length-append, take_more}
+use Rattle.std.proofs.lemmas.List.{length-append}
 use Rattle.kv_core.specs.Map.{Map}
 use Rattle.kv_core.specs.declared.change.CommitRequest.{CommitRequest}
 use Rattle.cluster_core.specs.declared.answers.Config.{Config}
@@ -28,11 +28,10 @@ use Rattle.schedule.specs.Holds.{HoldsAll, Stores}
 use Rattle.schedule.specs.Past.{Open, Past, Submission, execution, grown, is_accepted, is_changed, kept_plan, open_after, open_of, submission, submitted_in}
 use Rattle.schedule.specs.Standing.{cluster_from, commits_of, is_done, is_reported, is_told, settled, with_next}
 use Rattle.schedule.specs.Stepwise.{HasDoneFrom, StepwiseState}
-use Rattle.schedule.proofs.ReportSteps.{slice_some}
 use Rattle.schedule.proofs.Rightly.{cluster_base}
 use Rattle.schedule.proofs.Submitting.{commits_submitted, maps_submitted, submitted_length}
 use Rattle.logged_schedule.specs.Runs.{LosesNone, done_as}
-use Rattle.logged_schedule.proofs.Even.{IsEven, full_requests}
+use Rattle.logged_schedule.proofs.Even.{IsEven, full_requests, next_request}
 use Rattle.logged_schedule.proofs.Limits.{Fits, Stays, fits_later, fits_more, same_stores, with_attempt}
 use Rattle.logged_schedule.proofs.Listed.{even_next, even_none, submitted_grows}
 
@@ -102,13 +101,14 @@ module _ (before : Stores) where
       given : p.reported ≤ p.start + length subs
       given = even.given
 
+      found : (request : CommitRequest) × (with_next R p ≡ submit request p)
+      found = next_request R p past even within
+
       request : CommitRequest
-      request = get_or R (length subs) (slice_some R (length subs) within).0
+      request = found.0
 
       next : with_next R p ≡ submit request p
-      next =
-          ap (λ (rs : List CommitRequest). record p { requests = rs })
-          (ap (λ n. take (n + 1) R) full ∙ take_more R (length subs) (slice_some R (length subs) within).0 within ∙ ap (λ rs. rs ++ request ∷ []) (sym even.requests))
+      next = found.1
 
   -- ---- what fits
 

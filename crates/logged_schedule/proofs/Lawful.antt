@@ -40,7 +40,7 @@ use Rattle.replay.proofs.Replays.{in_order_append, logged_append, replayable_app
 use Rattle.replay.proofs.Stores.{holds_after}
 use Rattle.logged_schedule.specs.Entries.{logged_as, logged_in}
 use Rattle.logged_schedule.specs.Laws.{LogsGoOn}
-use Rattle.logged_schedule.specs.Runs.{IsHeldLog, first_of, past_in}
+use Rattle.logged_schedule.specs.Runs.{IsHeldLog, first_in, past_in}
 use Rattle.logged_schedule.proofs.Fitting.{AllFit, fit_done}
 use Rattle.logged_schedule.proofs.Limits.{Fits}
 use Rattle.logged_schedule.proofs.Listed.{logs_commits}
@@ -312,7 +312,7 @@ logs_go_on run state begun from has none = (
     stores = (log_database run.before).stores
 
     is_base : c.base ≡ (log_database run.before).map
-    is_base = run_base (first_of run) run.steps run.replies state.database has.0
+    is_base = run_base (first_in run) run.steps run.replies state.database has.0
 
     held : HoldsAll c.base stores
     held = subst (λ m. HoldsAll m stores) (sym is_base) begun.holds
@@ -343,7 +343,7 @@ logs_go_on run state begun from has none = (
     sound = sound_each c.base p subs (entries p) subs pairs (recursion_from_All (IsLegalEntryOver c.base (history p)) (history p) legal)
 
     start_is : p.start ≡ run.config.start
-    start_is = state_start (first_of run) run.steps run.replies state has
+    start_is = state_start (first_in run) run.steps run.replies state has
 
     begins : last_version 0 run.before ≤ p.start
     begins = omega (arith, from, start_is)

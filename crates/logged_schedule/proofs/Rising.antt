@@ -24,7 +24,7 @@ use Rattle.schedule.specs.Stepwise.{HasDoneFrom, StepwiseState}
 use Rattle.schedule.proofs.Submitting.{AreVersioned}
 use Rattle.logged_schedule.specs.Entries.{logged_as, logged_in, newly_logged, reports_in, told_first, waiting_in}
 use Rattle.logged_schedule.specs.Keeping.{VersionsRise}
-use Rattle.logged_schedule.specs.Runs.{IsHeldLog, LosesNone, Run, first_of, past_in}
+use Rattle.logged_schedule.specs.Runs.{IsHeldLog, LosesNone, Run, first_in, past_in}
 use Rattle.logged_schedule.proofs.Even.{IsEven, drop_length}
 use Rattle.logged_schedule.proofs.Listed.{even_done}
 use Rattle.logged_schedule.proofs.Longer.{longer_past}
@@ -183,7 +183,7 @@ reported_within R S p q past step reply same before after = by_count (nat_lt (le
 
 -- ---- a step
 
-pub rising_step : (run : Run) (step : Step) (reply : Reply) (before after : StepwiseState) → HasDoneFrom (first_of run) run.steps run.replies before → HasDoneFrom (first_of run) (run.steps ++ step ∷ []) (run.replies ++ reply ∷ []) after → LosesNone run.steps → LosesNone (run.steps ++ step ∷ []) →
+pub rising_step : (run : Run) (step : Step) (reply : Reply) (before after : StepwiseState) → HasDoneFrom (first_in run) run.steps run.replies before → HasDoneFrom (first_in run) (run.steps ++ step ∷ []) (run.replies ++ reply ∷ []) after → LosesNone run.steps → LosesNone (run.steps ++ step ∷ []) →
     (entries : List Entry) → VersionsRise 0 entries → last_version 0 entries ≤ before.database.cluster.pipeline.reported →
     VersionsRise 0 (entries ++ newly_logged (past_in run) step reply) × (last_version 0 (entries ++ newly_logged (past_in run) step reply) ≤ after.database.cluster.pipeline.reported)
 rising_step run step reply before after has has_now none none_now entries rise upto = (
@@ -210,7 +210,7 @@ rising_step run step reply before after has has_now none none_now entries rise u
     even_now = subst (IsEven (q.requests ++ []) q) (longer_past run step reply before has) (even_done (log_database run.before).map run.config (run.steps ++ step ∷ []) (run.replies ++ reply ∷ []) after has_now none_now)
 
     same : p.start ≡ q.start
-    same = state_start (first_of run) run.steps run.replies before has ∙ sym (state_start (first_of run) (run.steps ++ step ∷ []) (run.replies ++ reply ∷ []) after has_now)
+    same = state_start (first_in run) run.steps run.replies before has ∙ sym (state_start (first_in run) (run.steps ++ step ∷ []) (run.replies ++ reply ∷ []) after has_now)
 
     from : p.start ≤ p.reported
     from = even.begun

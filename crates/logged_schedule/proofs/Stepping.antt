@@ -28,7 +28,7 @@ use Rattle.logged_schedule.specs.Followed.{DoesFollow, IsFollowed}
 use Rattle.logged_schedule.specs.Following.{SubmitsOfClients}
 use Rattle.logged_schedule.specs.Keeping.{IsWithoutRoom, IsKeptStep, IsWithoutAnswer, KeepsRun, MayHaveLogged}
 use Rattle.logged_schedule.specs.Opening.{IsBegunAgain, IsOpenedAgain, config_after}
-use Rattle.logged_schedule.specs.Runs.{Run, done_as, first_of, past_in, told_as, with_step}
+use Rattle.logged_schedule.specs.Runs.{Run, done_as, first_in, past_in, told_as, with_step}
 use Rattle.logged_schedule.specs.Standing.{HasFollowed, StepsFollowed, device_with_log, run_over, schedule_of}
 use Rattle.logged_schedule.specs.Told.{stopped_by}
 use Rattle.logged_schedule.proofs.Longer.{longer_past, loses_none, submits}
@@ -40,7 +40,7 @@ use Rattle.logged_schedule.proofs.Logs.{appended_batch, leaves_batch, written_by
 pub steps_followed : (step : Step) (before : Followed) (stepped : Stepped) → DoesNext (done_as step) stepped.reply before.schedule stepped.followed.schedule →
     ((past : Past) → IsFollowed past before.following → SubmitsOfClients (done_as step) stepped.reply → DoesFollow past (done_as step) stepped.reply stepped.told.items stepped.followed.following) → StepsFollowed step before stepped
 steps_followed step before stepped next notes run follows =
-    let after = next (first_of run) run.steps run.replies follows.done in
+    let after = next (first_in run) run.steps run.replies follows.done in
     let of = submits run (done_as step) stepped.reply before.schedule stepped.followed.schedule follows.done after in
     let noted = notes (past_in run) follows.follows of in (
       record {

@@ -14,7 +14,7 @@ use Rattle.schedule.specs.Stepwise.{HasDoneFrom, StepwiseState}
 use Rattle.replay.specs.Histories.{TellsOfCommit}
 use Rattle.replay.specs.Logged.{last_version, log_database}
 use Rattle.logged_schedule.specs.Entries.{logged_as, logged_in}
-use Rattle.logged_schedule.specs.Runs.{IsHeldLog, LosesNone, Run, first_of, past_in}
+use Rattle.logged_schedule.specs.Runs.{IsHeldLog, LosesNone, Run, first_in, past_in}
 
 -- the entry of a submission tells of what is committed at its version, where that was this submission
 abbrev pub EntriesTell : Type 0
@@ -37,7 +37,7 @@ LogsCommits =
 abbrev pub LogsGoOn : Type 0
 LogsGoOn =
     (run : Run) (state : StepwiseState) → IsHeldLog run.before → last_version 0 run.before ≤ run.config.start →
-    HasDoneFrom (first_of run) run.steps run.replies state → LosesNone run.steps →
+    HasDoneFrom (first_in run) run.steps run.replies state → LosesNone run.steps →
     (let log = run.before ++ logged_in (past_in run) in
     let c = state.database.cluster in
     IsHeldLog log × ((log_database log).map ≡ database_at c c.pipeline.reported))

@@ -34,8 +34,8 @@ HasDoneOverLog config steps replies state =
     (log : List Entry) × IsHeldLog log
     × HasDoneFrom (first_cluster_over (log_database log).map config) steps replies state
 
--- REOPENED: the file has the log of some entries, which are lawful, and the schedule has done nothing yet over what they
--- come to, from the last one's version on; its device keeps their log
+-- REOPENED: the file has the log of some entries, which are lawful, and the schedule has done nothing yet over what
+-- they come to, from the last one's version on; its device keeps their log
 pub record IsOpenedAgain {D : Type 0} {G : Ghosts D} (seen : D → List ℕ) (may_leave : D → List ℕ → Type 0)
     (config : Config) (file : List ℕ) (logged : LoggedSchedule D G) : Type 0 where
   pub entries : List Entry

@@ -28,8 +28,8 @@ pub record Run : Type 0 where
   pub replies : List Reply
 
 -- the cluster with which it begins
-abbrev pub first_of : Run → ClusterState
-first_of run = first_cluster_over (log_database run.before).map run.config
+abbrev pub first_in : Run → ClusterState
+first_in run = first_cluster_over (log_database run.before).map run.config
 
 abbrev pub past_in : Run → Past
 past_in run = past_of [] run.steps run.replies

@@ -11,7 +11,7 @@ use Rattle.logged_schedule.specs.declared.followed.Stepped.{Stepped}
 use Rattle.logged_schedule.specs.declared.logged.LoggedSchedule.{LoggedSchedule}
 use Rattle.logged_schedule.specs.Entries.{newly_logged}
 use Rattle.logged_schedule.specs.Followed.{IsFollowed}
-use Rattle.logged_schedule.specs.Runs.{LosesNone, Run, done_as, first_of, past_in, with_step}
+use Rattle.logged_schedule.specs.Runs.{LosesNone, Run, done_as, first_in, past_in, with_step}
 
 -- the schedule
 abbrev pub schedule_of : {D : Type 0} {G : Ghosts D} → LoggedSchedule D G → StepwiseState
@@ -23,7 +23,7 @@ device_with_log logged = journals.device_of logged.journal
 
 -- a run was done in which no report is lost, and is followed
 pub record HasFollowed (run : Run) (followed : Followed) : Type 0 where
-  pub done : HasDoneFrom (first_of run) run.steps run.replies followed.schedule
+  pub done : HasDoneFrom (first_in run) run.steps run.replies followed.schedule
   pub follows : IsFollowed (past_in run) followed.following
   pub none_lost : LosesNone run.steps
 
