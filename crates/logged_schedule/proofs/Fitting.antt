@@ -75,9 +75,9 @@ module _ (before : Stores) where
     stores = λ number v h. same_stores before number v (told_now c.pipeline) c.pipeline.reported (submitted c.pipeline) subs h given;
   }
 
-  submitted_goes : (c : ClusterState) (R : List CommitRequest) (past : Past) (one : Submission) → IsEven R c.pipeline past → length (submitted_in past ++ one ∷ []) ≤ length R → one.version ≡ submitted c.pipeline + 1 →
+  submitted_goes : (c : ClusterState) (R : List CommitRequest) (past : Past) (one : Submission) → IsEven R c.pipeline past → length (submitted_in past) < length R → one.version ≡ submitted c.pipeline + 1 →
       Goes c (submitted_in past) (with_pipeline (with_next R c.pipeline) c) (submitted_in past ++ one ∷ [])
-  submitted_goes c R past one even room at = subst (λ q. Goes c subs (with_pipeline q c) (subs ++ one ∷ [])) (sym next) (record {
+  submitted_goes c R past one even within at = subst (λ q. Goes c subs (with_pipeline q c) (subs ++ one ∷ [])) (sym next) (record {
     reported = omega arith;
     maps = λ v h. maps_submitted c.base p request v (omega (arith, h, given, full));
     stores = λ number v h. ap (λ (cs : List CommitEntry). committed_over before number cs v) (sym (commits_submitted p request subs one even.versions (sym full) (omega (arith, given, full)) at));
@@ -88,12 +88,6 @@ module _ (before : Stores) where
 
       subs : List Submission
       subs = submitted_in past
-
-      one_more : length (subs ++ one ∷ []) ≡ length subs + 1
-      one_more = length-append subs (one ∷ [])
-
-      within : length subs < length R
-      within = omega (arith, one_more, room)
 
       full : length p.requests ≡ length subs
       full = full_requests R p past even (omega (arith, within))
@@ -263,7 +257,9 @@ module _ (before : Stores) where
           let one : Submission = record { version = submitted c.pipeline + 1; client = who; transaction = open_now } in
           let now : submitted_in past ++ submission who (submitted c.pipeline + 1) (open_of who past) ≡ submitted_in past ++ one ∷ [] = ap (λ o. submitted_in past ++ submission who (submitted c.pipeline + 1) o) there in
           let d = with_pipeline (with_next R c.pipeline) c in
-          let goes = submitted_goes c R past one even (subst (λ ss. length ss ≤ length R) now room_now) refl in
+          let longer : length (submitted_in past ++ one ∷ []) ≡ length (submitted_in past) + 1 = length-append (submitted_in past) (one ∷ []) in
+          let room_for : length (submitted_in past ++ one ∷ []) ≤ length R = subst (λ ss. length ss ≤ length R) now room_now in
+          let goes = submitted_goes c R past one even (omega (arith, longer, room_for)) refl in
           let later = commits_of d.pipeline (submitted_in past ++ one ∷ []) in
           let fits : Fits before c commits open_now = subst (FitsSome c commits) there (fit.opens who) in
           record {

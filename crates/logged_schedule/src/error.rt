@@ -2,7 +2,8 @@
 ghost use Rattle.std.specs.Prelude.{◌≡◌};
 ghost use Rattle.logged_schedule.specs.declared.error.OpenError.TheVariants as opens;
 ghost use Rattle.logged_schedule.specs.declared.error.StepError.TheVariants as stops;
-ghost use Rattle.logged_schedule.specs.Told.{opening_error, replay_error, schedule_error, stopped_by};
+ghost use Rattle.logged_schedule.specs.Told.{opening_error, replay_error};
+ghost use Rattle.logged_schedule.specs.Told.{schedule_error, stopped_by};
 
 use cluster_core::ConfigError;
 use journal::{AppendError, DeviceError, RecoverError};

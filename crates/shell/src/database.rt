@@ -101,9 +101,9 @@ impl Database {
     }
 
     /// The cluster after the steps so far. Whatever steps those were and whatever they replied: the
-    /// transcript of them is one that `run_schedule` may answer, but that of the requests only those
-    /// are kept of which a role or a server may still ask. Over a log it is so for all stores that the
-    /// log comes to.
+    /// transcript of them is one that `run_schedule` may answer, but that of the requests only
+    /// those are kept of which a role or a server may still ask. Over a log it is so for the stores
+    /// that the log comes to.
     pub fn cluster(&self) -> &Cluster
         ensures now { whole_cluster result.now ≡ self.now.database.cluster }
         ensures forgotten { result.now ≡ forget result.now }
