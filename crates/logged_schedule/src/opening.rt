@@ -44,7 +44,7 @@ pub fn open<D: Device>(
 {
     let mut kept = Kept::new(alloc);
     match recover(alloc, device, &mut kept) {
-        Ok(journal) => match begun_again(alloc, config, kept.entries()) {
+        Ok(journal) => match begun_again(alloc, config, kept) {
             Ok(followed) => Ok(LoggedSchedule::of(followed, journal)),
             Err(error) => Err(Unopened {
                 device: journal.into_device(),
