@@ -162,21 +162,13 @@ module _ (base : Map) (p : PipelineState) (subs : List Submission) where
   listed_each [] [] pairs = refl
   listed_each [] (one ∷ ss) pairs = absurd pairs
   listed_each (e ∷ es) [] pairs = absurd pairs
-  listed_each (e ∷ es) (one ∷ ss) (pair, pairs) =
-      left (is_committed p.splits (entries p) e)
-      ∙ (λ i. cond (is_committed p.splits (entries p) e) (cond (nat_le (pair.at i) p.reported) (entry_is i ∷ behind) behind) behind)
-      ∙ (λ i. cond (sym pair.same_end i) (cond (nat_le one.version p.reported) (logged_as one ∷ rest i) (rest i)) (rest i))
-      ∙ middle (is_told (outcome p one.version)) (nat_le one.version p.reported)
-      ∙ sym (right (nat_le one.version p.reported && is_told (outcome p one.version)))
+  listed_each (e ∷ es) (one ∷ ss) (pair, pairs) = both (listed_each es ss pairs)
     where
       behind : List Entry
       behind = map entry_of (until p.reported (passing es))
 
       after : List Entry
       after = map logged_as (filter (is_listed p) ss)
-
-      rest : behind ≡ after
-      rest = listed_each es ss pairs
 
       entry_is : entry_of e ≡ logged_as one
       entry_is = ap (λ o. option_map_or logged_as o nothing) pair.found
@@ -198,6 +190,14 @@ module _ (base : Map) (p : PipelineState) (subs : List Submission) where
       right : (b : Bool) → map logged_as (cond b (one ∷ filter (is_listed p) ss) (filter (is_listed p) ss)) ≡ cond b (logged_as one ∷ after) after
       right true = refl
       right false = refl
+
+      both : behind ≡ after → map entry_of (until p.reported (passing (e ∷ es))) ≡ map logged_as (filter (is_listed p) (one ∷ ss))
+      both rest =
+          left (is_committed p.splits (entries p) e)
+          ∙ (λ i. cond (is_committed p.splits (entries p) e) (cond (nat_le (pair.at i) p.reported) (entry_is i ∷ behind) behind) behind)
+          ∙ (λ i. cond (sym pair.same_end i) (cond (nat_le one.version p.reported) (logged_as one ∷ rest i) (rest i)) (rest i))
+          ∙ middle (is_told (outcome p one.version)) (nat_le one.version p.reported)
+          ∙ sym (right (nat_le one.version p.reported && is_told (outcome p one.version)))
 
   -- ---- one version more
 

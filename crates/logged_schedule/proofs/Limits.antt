@@ -157,16 +157,13 @@ upto number v told_now r subs = filter (is_of_upto number v) (map commit_entry (
 
 same_entries : (number v : ℕ) (told_now : Submission → Bool) (r s : ℕ) (subs : List Submission) → v ≤ r → r ≤ s → upto number v told_now r subs ≡ upto number v told_now s subs
 same_entries number v told_now r s [] low high = refl
-same_entries number v told_now r s (one ∷ subs) low high = push r ∙ by_own (is_of_upto number v (commit_entry one)) refl ∙ sym (push s)
+same_entries number v told_now r s (one ∷ subs) low high = push r ∙ by_own (is_of_upto number v (commit_entry one)) refl (same_entries number v told_now r s subs low high) ∙ sym (push s)
   where
     own : Bool
     own = is_of_upto number v (commit_entry one)
 
     behind : ℕ → List CommitEntry
     behind x = upto number v told_now x subs
-
-    rest : behind r ≡ behind s
-    rest = same_entries number v told_now r s subs low high
 
     chosen : Bool → Bool → List CommitEntry → List CommitEntry
     chosen b o entries = cond b (cond o (commit_entry one ∷ entries) entries) entries
@@ -182,11 +179,11 @@ same_entries number v told_now r s (one ∷ subs) low high = push r ∙ by_own (
     either true entries = refl
     either false entries = refl
 
-    by_own : (o : Bool) → own ≡ o → chosen (nat_le one.version r && told_now one) own (behind r) ≡ chosen (nat_le one.version s && told_now one) own (behind s)
-    by_own false is =
+    by_own : (o : Bool) → own ≡ o → behind r ≡ behind s → chosen (nat_le one.version r && told_now one) own (behind r) ≡ chosen (nat_le one.version s && told_now one) own (behind s)
+    by_own false is rest =
         ap (λ o. chosen (nat_le one.version r && told_now one) o (behind r)) is ∙ either (nat_le one.version r && told_now one) (behind r) ∙ rest
         ∙ sym (ap (λ o. chosen (nat_le one.version s && told_now one) o (behind s)) is ∙ either (nat_le one.version s && told_now one) (behind s))
-    by_own true is =
+    by_own true is rest =
         let below : one.version ≤ v = leb-true one.version v (and_parts (one.transaction.store == number) (nat_le one.version v) is).1 in
         ap (λ b. chosen (b && told_now one) own (behind r)) (le-leb one.version r (omega (arith, below, low)))
         ∙ ap (chosen (told_now one) own) rest

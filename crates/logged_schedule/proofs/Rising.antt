@@ -1,6 +1,6 @@
 -- The versions of what is logged rise, over plain values.
-use Rattle.std.proofs.Common.{◌≡◌, ◌∙◌, ◌⊎◌, nat_lt, ℕ, suc, ◌+◌, ◌-◌, ◌<◌, ◌≤◌, Bool, true, false, cond, List, [], ◌∷◌, ◌++◌, length, take, drop, max, inl, inr, ap, refl, sym, subst, append-nil, arith}
-use Rattle.std.specs.Prelude.{map}
+use Rattle.std.proofs.Common.{◌≡◌, ◌∙◌, ◌⊎◌, nat_lt, ℕ, suc, ◌+◌, ◌-◌, ◌<◌, ◌≤◌, Bool, true, false, cond, List, [], ◌∷◌, ◌++◌, length, take, drop, max, inl, inr, ap, refl, sym, subst, subst₂, append-nil, arith}
+use Rattle.std.specs.Prelude.{IfOk, Result, Ok, Err, map}
 use Rattle.std.specs.List.{filter}
 use Rattle.std.proofs.lemmas.Bool.{ltb-true, ltb-false}
 use Rattle.std.proofs.lemmas.List.{length-append, length-map}
@@ -10,6 +10,7 @@ use Rattle.cluster_core.specs.Cluster.{ClusterState, pull, with_pipeline}
 use Rattle.cluster_core.specs.Roles.{PipelineState, append, report, resolve}
 use Rattle.command_log.specs.declared.entry.Entry.{Entry}
 use Rattle.replay.specs.Logged.{ComeInOrder, IsLawfulLog, last_version, log_database}
+use Rattle.replay.specs.Replaying.{AreWrittenAs, Image, IsReplay}
 use Rattle.replay.proofs.Stores.{holds_nothing}
 use Rattle.schedule.specs.declared.reply.Reply.{Reply}
 use Rattle.schedule.specs.declared.reply.Reply.TheVariants as answers
@@ -18,13 +19,18 @@ use Rattle.schedule.specs.declared.reply.Report.TheVariants.{Committed, Conflict
 use Rattle.schedule.specs.declared.step.Step.{Step}
 use Rattle.schedule.specs.declared.step.Step.TheVariants as steps
 use Rattle.schedule.specs.Contract.{past_of}
+use Rattle.schedule.specs.Holds.{HoldsAll}
 use Rattle.schedule.specs.Past.{Past, Submission, open_of, submission, submitted_after, submitted_in}
 use Rattle.schedule.specs.Standing.{cluster_from, is_done, is_reported, is_submitted, with_next}
 use Rattle.schedule.specs.Stepwise.{HasDoneFrom, StepwiseState}
 use Rattle.schedule.proofs.Submitting.{AreVersioned}
 use Rattle.logged_schedule.specs.Entries.{logged_as, logged_in, newly_logged, reports_in, told_first, waiting_in}
+use Rattle.logged_schedule.specs.declared.error.OpenError.{OpenError}
+use Rattle.logged_schedule.specs.declared.followed.Followed.{Followed}
 use Rattle.logged_schedule.specs.Keeping.{VersionsRise}
+use Rattle.logged_schedule.specs.Opening.{IsBegunAgain, from_version}
 use Rattle.logged_schedule.specs.Runs.{IsHeldLog, LosesNone, Run, first_in, past_in}
+use Rattle.logged_schedule.specs.Standing.{BeginsFollowed}
 use Rattle.logged_schedule.proofs.Even.{IsEven, drop_length}
 use Rattle.logged_schedule.proofs.Listed.{even_done}
 use Rattle.logged_schedule.proofs.Longer.{longer_past}
@@ -251,3 +257,21 @@ none_logged entries lawful zero_last = by_entries entries lawful.in_order zero_l
     by_entries : (es : List Entry) → ComeInOrder 0 es → last_version 0 es ≡ 0 → es ≡ []
     by_entries [] order is = refl
     by_entries (entry ∷ es) (above, lawful_one, order) is = let least = no_less entry.version es order in absurd (omega (arith, above, least, is))
+
+-- ---- what begins over a log
+
+-- a schedule over an empty database begins over a log that comes to version 0
+pub begun_on_none : (config : Config) (log bytes : List (List ℕ)) (image : Image) (last start : ℕ) (result : Result Followed OpenError) → IsReplay log image → log ≡ bytes → last ≡ image.version → last ≡ 0 → start ≡ max config.start last →
+    IfOk result (BeginsFollowed [] (from_version start config)) → IfOk result (IsBegunAgain config bytes)
+begun_on_none config log bytes image last start (Err error) replayed same is_last zero_last is_start begun = tt
+begun_on_none config log bytes image last start (Ok followed) replayed same is_last zero_last is_start begun =
+    let entries = replayed.entries in
+    let logged = replayed.logged in
+    let ends : last ≡ last_version 0 entries = is_last ∙ logged.version in
+    let none : entries ≡ [] = none_logged entries logged.lawful (sym ends ∙ zero_last) in
+    record {
+      entries = entries;
+      written = subst (λ l. AreWrittenAs l entries) same replayed.written;
+      over = record { lawful = logged.lawful; holds = subst (λ m. HoldsAll m (log_database entries).stores) logged.map logged.holds };
+      follows = subst₂ (λ es first. BeginsFollowed es (from_version first config) followed) (sym none) (is_start ∙ ap (max config.start) ends) begun;
+    }

@@ -33,11 +33,11 @@ begun_not config log (opens.Unreplayed why) not = absurd not
 
 -- or where the log isn't lawful
 pub not_replayed : (config : Config) (log : List (List ℕ)) (error : ReplayError) → IsUnreplayed log error → IsWhyOn [] log error → IsNotBegunAgain config log (replay_error error)
-not_replayed config log replays.Memory no why = tt
-not_replayed config log (replays.NotAnEntry place error) no why = (no, why)
-not_replayed config log (replays.OutOfOrder place) no why = (no, why)
-not_replayed config log (replays.NoSuchStore place) no why = (no, why)
-not_replayed config log (replays.Refused place error) no why = (no, why)
+not_replayed config log replays.Memory lawless why = tt
+not_replayed config log (replays.NotAnEntry place error) lawless why = (lawless, why)
+not_replayed config log (replays.OutOfOrder place) lawless why = (lawless, why)
+not_replayed config log (replays.NoSuchStore place) lawless why = (lawless, why)
+not_replayed config log (replays.Refused place error) lawless why = (lawless, why)
 
 -- so that none is opened
 pub none_again : (config : Config) (faults faults_now : ℕ) (log : List (List ℕ)) (file : List ℕ) (error : OpenError) → log ≡ entries_read file → IsNotBegunAgain config log error → IsNoneOpened config faults faults_now file error

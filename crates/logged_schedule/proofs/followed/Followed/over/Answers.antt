@@ -8,7 +8,7 @@ use Rattle.replay.proofs.Wholes.{pairs_suffice}
 use Rattle.logged_schedule.proofs.followed.Followed.over.Goals as goal
 
 pub over-requires-clause-stores : goal.over-requires-clause-stores
-over-requires-clause-stores c yes =
+over-requires-clause-stores c known =
     let entries = c.requires.logged.0 in
     let is = c.requires.logged.1 in
     let stores = (log_database entries).stores in
