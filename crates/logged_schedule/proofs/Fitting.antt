@@ -1,5 +1,5 @@
 -- So it is with all that clients have open or have submitted, after whatever steps.
-use Rattle.std.proofs.Common.{◌≡◌, ◌∙◌, ◌==◌, ℕ, ◌+◌, ◌-◌, ◌<◌, ◌≤◌, Bool, true, false, cond, List, [], ◌∷◌, ◌++◌, Option, Some, None, length, drop, get_or, nat_lt, refl, sym, ap, subst, append-nil, arith}
+use Rattle.std.proofs.Common.{◌≡◌, ◌∙◌, ◌==◌, ℕ, ◌+◌, ◌<◌, ◌≤◌, Bool, true, false, cond, List, [], ◌∷◌, ◌++◌, Option, Some, None, length, drop, get_or, nat_lt, refl, sym, ap, subst, append-nil, arith}
 use Rattle.std.specs.List.{AllByRecursion}
 use Rattle.std.proofs.lemmas.Bool.{eqb-true, true≢false}
 use Rattle.std.proofs.lemmas.List.{length-append}
@@ -13,7 +13,7 @@ use Rattle.cluster_core.specs.Configuration.{first_cluster_over}
 use Rattle.cluster_core.specs.Roles.{PipelineState, append, outcome, report, resolve, submit, submit_refusal, submitted}
 use Rattle.planner.specs.Asked.{AskedPlan}
 use Rattle.record_store.specs.Layout.{is_store_number}
-use Rattle.schedule.specs.declared.refusal.Refusal.TheVariants.{Busy, NoPlan, NoSuchClient, NoSuchStore, NoTransaction, TooOld, VersionsExhausted}
+use Rattle.schedule.specs.declared.refusal.Refusal.TheVariants.{NoSuchClient, NoTransaction, TooOld, VersionsExhausted}
 use Rattle.schedule.specs.declared.reply.Reply.{Reply}
 use Rattle.schedule.specs.declared.reply.Reply.TheVariants as answers
 use Rattle.schedule.specs.declared.step.Command.{Command}
@@ -30,9 +30,9 @@ use Rattle.schedule.specs.Standing.{cluster_from, commits_of, is_done, is_report
 use Rattle.schedule.specs.Stepwise.{HasDoneFrom, StepwiseState}
 use Rattle.schedule.proofs.Rightly.{cluster_base}
 use Rattle.schedule.proofs.Submitting.{commits_submitted, maps_submitted, submitted_length}
-use Rattle.logged_schedule.specs.Runs.{LosesNone, done_as}
+use Rattle.logged_schedule.specs.Runs.{LosesNone}
 use Rattle.logged_schedule.proofs.Even.{IsEven, full_requests, next_request}
-use Rattle.logged_schedule.proofs.Limits.{Fits, Stays, fits_later, fits_more, same_stores, with_attempt}
+use Rattle.logged_schedule.proofs.Limits.{Fits, Stays, fits_later, fits_more, same_stores}
 use Rattle.logged_schedule.proofs.Listed.{even_next, even_none, submitted_grows}
 
 -- ---- a step makes a later cluster

@@ -1,32 +1,28 @@
 -- A lawful log goes on lawfully with what a schedule over it has committed, and comes to the schedule's database.
-use Rattle.std.proofs.Common.{◌≡◌, ◌∙◌, ◌&&◌, ℕ, zero, suc, ◌+◌, ◌-◌, ◌<◌, ◌≤◌, Bool, true, false, cond, inl, inr, List, [], ◌∷◌, ◌++◌, Option, Some, None, is_none, map, nat_le, slice_get, refl, sym, ap, subst, subst₂, append-nil, append_assoc, arith}
-use Rattle.std.specs.List.{All, AllByRecursion, filter}
+use Rattle.std.proofs.Common.{◌≡◌, ◌∙◌, ◌&&◌, ℕ, suc, ◌+◌, ◌-◌, ◌<◌, ◌≤◌, Bool, true, false, cond, inl, inr, List, [], ◌∷◌, ◌++◌, Option, Some, None, is_none, map, nat_le, slice_get, refl, sym, ap, subst, subst₂, append-nil, append_assoc, arith}
+use Rattle.std.specs.List.{AllByRecursion, filter}
 use Rattle.std.specs.Option.{option_map_or}
 use Rattle.std.proofs.lemmas.List.{map-append}
 use Rattle.std.proofs.lemmas.List.Elements.{recursion_from_All, All-from_recursion, All-filter}
 use Rattle.kv_core.specs.Limits.{write_all_refusal}
 use Rattle.kv_core.specs.Map.{Map, Agree, after_all}
 use Rattle.kv_core.specs.declared.change.CommitRequest.{CommitRequest}
-use Rattle.kv_core.specs.declared.change.Mutation.{Mutation}
 use Rattle.cluster_core.specs.Cluster.{ClusterState, database_at}
 use Rattle.cluster_core.specs.Decision.{Cause, cause, is_committed, numbered}
 use Rattle.cluster_core.specs.History as histories
 use Rattle.cluster_core.specs.History.{IsLegalEntryOver, IsLegalOver, IsRising, map_over, replay, until}
-use Rattle.cluster_core.specs.Laws.{ReadsBelow}
 use Rattle.cluster_core.specs.Roles.{PipelineState, entries, history, outcome, told, told_of}
 use Rattle.cluster_core.proofs.Causes.{cause_decides}
 use Rattle.cluster_core.proofs.Legality.{committed_is_legal_over, up}
 use Rattle.cluster_core.proofs.Versions.{above-numbered, fold-push, rising-filter, rising-numbered, until-none, until-suc}
 use Rattle.record_store.specs.Layout.{is_store_number}
-use Rattle.record_store.specs.Store.{Serial}
-use Rattle.schedule.specs.declared.step.Command.{Command}
 use Rattle.schedule.specs.declared.transcript.CommitEntry.{CommitEntry}
 use Rattle.schedule.specs.Contract.{EachRequest}
 use Rattle.schedule.specs.Exact.{IsExactRequest, commands_written}
 use Rattle.schedule.specs.Holds.{HoldsAll, Stands, Stores}
-use Rattle.schedule.specs.Past.{Attempt, Open, Past, Submission, accepted, submitted_in}
+use Rattle.schedule.specs.Past.{Submission, accepted, submitted_in}
 use Rattle.schedule.specs.Serve.{effects}
-use Rattle.schedule.specs.Standing.{commits_of, is_listed, is_told, listed}
+use Rattle.schedule.specs.Standing.{commits_of, is_listed, is_told}
 use Rattle.schedule.specs.Turns.{AreSubmitted, IsOpenTransaction, fresh_request}
 use Rattle.schedule.proofs.Composed.{are_requests}
 use Rattle.schedule.proofs.RunSteps.{run_base}
@@ -41,7 +37,7 @@ use Rattle.replay.proofs.Stores.{holds_after}
 use Rattle.logged_schedule.specs.Entries.{logged_as, logged_in}
 use Rattle.logged_schedule.specs.Laws.{LogsGoOn}
 use Rattle.logged_schedule.specs.Runs.{IsHeldLog, first_in, past_in}
-use Rattle.logged_schedule.proofs.Fitting.{AllFit, fit_done}
+use Rattle.logged_schedule.proofs.Fitting.{fit_done}
 use Rattle.logged_schedule.proofs.Limits.{Fits}
 use Rattle.logged_schedule.proofs.Listed.{logs_commits}
 use Rattle.logged_schedule.proofs.Looking.{written_suffice}

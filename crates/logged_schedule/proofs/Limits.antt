@@ -1,15 +1,14 @@
 -- What open transactions and submissions have written meets no limit, since each of their accepted commands met none.
-use Rattle.std.proofs.Common.{◌≡◌, ◌∙◌, ◌==◌, ◌&&◌, ℕ, ◌+◌, ◌-◌, ◌<◌, ◌≤◌, Bool, true, false, cond, List, [], ◌∷◌, ◌++◌, Option, Some, None, inl, inr, length, take, drop, get_or, nat_le, nat_lt, fold, refl, sym, ap, subst, subst₂, append-nil, append_assoc, arith}
+use Rattle.std.proofs.Common.{◌≡◌, ◌∙◌, ◌==◌, ◌&&◌, ℕ, ◌≤◌, Bool, true, false, cond, List, [], ◌∷◌, ◌++◌, Option, Some, None, inl, inr, nat_le, fold, refl, sym, ap, subst, subst₂, append-nil, append_assoc, arith}
 use Rattle.std.specs.Prelude.{map}
-use Rattle.std.specs.List.{AllByRecursion, filter}
+use Rattle.std.specs.List.{filter}
 use Rattle.std.specs.Option.{option_or}
-use Rattle.std.proofs.lemmas.Bool.{and_parts, eqb-true, le-leb, leb-true, true≢false}
-use Rattle.std.proofs.lemmas.List.{length-append, map-append, take_more}
+use Rattle.std.proofs.lemmas.Bool.{and_parts, le-leb, leb-true, true≢false}
+use Rattle.std.proofs.lemmas.List.{map-append}
 use Rattle.std.proofs.lemmas.List.Elements.{filter-append}
 use Rattle.kv_core.specs.Limits.{write_all_refusal, write_refusal}
 use Rattle.kv_core.specs.Map.{Map, after_all}
 use Rattle.kv_core.specs.Range.{KeyRange}
-use Rattle.kv_core.specs.declared.change.CommitRequest.{CommitRequest}
 use Rattle.kv_core.specs.declared.change.Mutation.{Mutation}
 use Rattle.kv_core.specs.declared.change.WriteError.{WriteError}
 use Rattle.kv_core.specs.declared.change.WriteError.TheVariants as limits

@@ -1,9 +1,8 @@
 -- The versions of what is logged rise, over plain values.
-use Rattle.std.proofs.Common.{◌≡◌, ◌∙◌, ◌⊎◌, nat_lt, ℕ, suc, ◌+◌, ◌-◌, ◌<◌, ◌≤◌, Bool, true, false, cond, List, [], ◌∷◌, ◌++◌, length, take, drop, max, inl, inr, ap, refl, sym, subst, subst₂, append-nil, arith}
+use Rattle.std.proofs.Common.{◌≡◌, ◌∙◌, ◌⊎◌, nat_lt, ℕ, ◌+◌, ◌-◌, ◌<◌, ◌≤◌, Bool, true, false, cond, List, [], ◌∷◌, ◌++◌, length, drop, max, inl, inr, ap, refl, sym, subst, subst₂, append-nil, arith}
 use Rattle.std.specs.Prelude.{IfOk, Result, Ok, Err, map}
-use Rattle.std.specs.List.{filter}
 use Rattle.std.proofs.lemmas.Bool.{ltb-true, ltb-false}
-use Rattle.std.proofs.lemmas.List.{length-append, length-map}
+use Rattle.std.proofs.lemmas.List.{length-append}
 use Rattle.kv_core.specs.declared.change.CommitRequest.{CommitRequest}
 use Rattle.cluster_core.specs.declared.answers.Config.{Config}
 use Rattle.cluster_core.specs.Cluster.{ClusterState, pull, with_pipeline}
@@ -24,7 +23,7 @@ use Rattle.schedule.specs.Past.{Past, Submission, open_of, submission, submitted
 use Rattle.schedule.specs.Standing.{cluster_from, is_done, is_reported, is_submitted, with_next}
 use Rattle.schedule.specs.Stepwise.{HasDoneFrom, StepwiseState}
 use Rattle.schedule.proofs.Submitting.{AreVersioned}
-use Rattle.logged_schedule.specs.Entries.{logged_as, logged_in, newly_logged, reports_in, told_first, waiting_in}
+use Rattle.logged_schedule.specs.Entries.{logged_as, newly_logged, reports_in, told_first, waiting_in}
 use Rattle.logged_schedule.specs.declared.error.OpenError.{OpenError}
 use Rattle.logged_schedule.specs.declared.followed.Followed.{Followed}
 use Rattle.logged_schedule.specs.Keeping.{VersionsRise}

@@ -1,5 +1,5 @@
 -- Steps that are followed, logged and answered, over plain values.
-use Rattle.std.proofs.Common.{◌≡◌, ℕ, ◌+◌, ◌^◌, ◌≤◌, ◌∙◌, List, [], ◌++◌, length, ap, refl, sym, subst, append-nil, append_assoc, arith}
+use Rattle.std.proofs.Common.{◌≡◌, ℕ, ◌+◌, ◌^◌, ◌≤◌, ◌∙◌, List, [], ◌++◌, length, ap, sym, subst, append-nil, append_assoc, arith}
 use Rattle.std.specs.Prelude.{Result, Err, IsErrOf}
 use Rattle.cluster_core.specs.Configuration.{first_cluster_over}
 use Rattle.cluster_core.specs.declared.answers.Config.{Config}

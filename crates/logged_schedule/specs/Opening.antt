@@ -1,5 +1,5 @@
 -- What opening a log gives.
-use Rattle.std.specs.Prelude.{◌≡◌, ℕ, List, max}
+use Rattle.std.specs.Prelude.{ℕ, List, max}
 use Rattle.cluster_core.specs.Configuration.{first_cluster_over}
 use Rattle.cluster_core.specs.declared.answers.Config.{Config}
 use Rattle.command_log.specs.declared.entry.Entry.{Entry}

@@ -1,4 +1,4 @@
-use Rattle.std.proofs.Common.{◌≡◌, [], ap, refl, subst, sym, ◌∙◌}
+use Rattle.std.proofs.Common.{[], ap, refl, subst, sym, ◌∙◌}
 use Rattle.std.specs.FinMap.{from_entries}
 use Rattle.cluster_core.specs.Configuration.{first_cluster_over}
 use Rattle.schedule.specs.Holds.{HoldsAll}
