@@ -52,7 +52,13 @@ impl<'a> Model for Session<'a> {
 
     ghost Value = { SessionView };
 
-    ghost coded = { Prim.hlevel (codes, map_code, requests.the_row.coded, opened.the_row.coded, open_tx.the_row.coded) };
+    ghost coded = { Prim.hlevel (
+      codes,
+      map_code,
+      requests.the_row.coded,
+      opened.the_row.coded,
+      open_tx.the_row.coded,
+    ) };
 
     ghost view = { λ s. record { cluster = s.db.now.cluster; store = s.store; tx = s.tx } };
 }
