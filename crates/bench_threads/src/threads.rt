@@ -205,6 +205,15 @@ fn jobs<E: End>(
     Some(jobs)
 }
 
+// Has the clients work, each on a thread of its own, and answers how many loads or saves each did.
+fn work_each<E: End + Send, R: Threads + Wait + Clock + Sync>(
+    rt: &R,
+    alloc: Global,
+    jobs: Vec<Job<E>>,
+) -> Option<Vec<Option<u64>>> {
+    thread::map_vec(rt, jobs, &|job| worked(rt, alloc, job)).ok()
+}
+
 // How many loads or saves each of the clients does, those that save first.
 fn counts<R: Threads + Wait + Clock + Sync>(
     rt: &R,
@@ -216,8 +225,7 @@ fn counts<R: Threads + Wait + Clock + Sync>(
 ) -> Option<Vec<Option<u64>>> {
     let places = writers.wrapping_add(readers);
     let clients = opened(rt, alloc, Waits { rt }, places, WINDOW, RECORDS)?;
-    let jobs = jobs(alloc, clients, writers, count, commits)?;
-    thread::map_vec(rt, jobs, &|job| worked(rt, alloc, job)).ok()
+    work_each(rt, alloc, jobs(alloc, clients, writers, count, commits)?)
 }
 
 // How many are done a second.
