@@ -1,0 +1,29 @@
+// Prints what a file has. Called by `main`.
+use command_log::entry_of;
+use journal::{Kept, recover};
+use journal_file::FileDevice;
+use std::alloc::Global;
+use std::fs::{File, Files};
+use std::io::{self, ErrorKind};
+
+/// Prints the client, the number and the version of each entry.
+pub fn list<R: Print + Files<File = File>>(rt: &R, alloc: Global, path: &str) -> io::Result<()> {
+    let Ok(device) = FileDevice::open(rt, alloc, path) else {
+        return Err(io::Error::from(ErrorKind::NotFound));
+    };
+    let mut kept = Kept::new(alloc);
+    let Ok(journal) = recover(alloc, device, &mut kept) else {
+        return Err(io::Error::from(ErrorKind::InvalidData));
+    };
+    drop(journal);
+    for bytes in kept.entries() {
+        let Ok(entry) = entry_of(alloc, bytes.as_slice()) else {
+            return Err(io::Error::from(ErrorKind::InvalidData));
+        };
+        let client = entry.client;
+        let number = entry.number;
+        let version = entry.version;
+        println!(rt; "{client} {number} {version}")?;
+    }
+    Ok(())
+}
