@@ -1,6 +1,6 @@
 // The read set of a transaction, as a list of ranges. Held by a commit request (`change`), filled
 // by `txn`, gone through by the resolvers of `cluster_core`.
-ghost use Rattle.std.specs.Prelude.{◌≡◌, List, [], ◌∷◌, ◌++◌, length, IsTrue, IfOk, IsOk, OnOk, OnErr};
+ghost use Rattle.std.specs.Prelude.{◌≡◌, ◌<◌, List, [], ◌∷◌, ◌++◌, length, IsTrue, IfOk, IsOk, OnOk, OnErr};
 ghost use Rattle.std.specs.List.{list_any};
 ghost use Rattle.kv_core.specs.Range.{KeyRange as Range, is_same_range, with_range, any_meets};
 ghost use Rattle.kv_core.specs.RangeIndex.{HasIndex, bucket_of};
@@ -12,9 +12,6 @@ use std::marker::Model;
 
 /// How many ranges are gone through one by one, without an index.
 const FEW: usize = 16;
-
-/// How many buckets an index has for each of its ranges when it is made.
-const BUCKETS_FOR_EACH: usize = 4;
 
 /// Ranges of keys, in the order in which they were added.
 ///
@@ -38,6 +35,15 @@ impl Model for RangeList {
     ghost invariant = { λ a. HasIndex a.index a.ranges.items };
 }
 
+/// How many buckets an index of so many ranges begins with: two to four for each, and a power of
+/// two, so that a hash is spread over all of them.
+fn bucket_count(ranges: usize) -> usize
+    ensures { 0 < result }
+{
+    let bits = usize::BITS.saturating_sub(ranges.leading_zeros());
+    1 << (bits + 1).min(usize::BITS - 1)
+}
+
 /// What is known of ranges, where they are many.
 fn index_of(alloc: Global, ranges: &[KeyRange]) -> Result<RangeIndex, AllocError>
     ensures { IfOk result (λ index. HasIndex index ranges.now) }
@@ -45,7 +51,7 @@ fn index_of(alloc: Global, ranges: &[KeyRange]) -> Result<RangeIndex, AllocError
     if ranges.len() <= FEW {
         return Ok(RangeIndex::new(alloc));
     }
-    RangeIndex::of(alloc, ranges, ranges.len().saturating_mul(BUCKETS_FOR_EACH))
+    RangeIndex::of(alloc, ranges, bucket_count(ranges.len()))
 }
 
 /// Whether there is a range with this begin and this end among these. The bucket of the range is
