@@ -8,7 +8,7 @@ use Rattle.std.proofs.lemmas.Nat.{and_le_r}
 use Rattle.std.specs.List.{list_any}
 use Rattle.kv_core.specs.Range.{KeyRange, is_same_range}
 use Rattle.kv_core.specs.declared.range_index.RangeIndex.{RangeIndex}
-use Rattle.kv_core.specs.RangeIndex.{HasIndex, IsChained, IsLast, bucket_of, range_hash}
+use Rattle.kv_core.specs.RangeIndex.{HasIndex, IsChained, IsLastIn, bucket_of, range_hash}
 use Rattle.kv_core.proofs.Order.{is_same_range-equal}
 
 -- a range's bucket is one of so many
@@ -18,7 +18,7 @@ bucket_within count range some = omega (arith, and_le_r (range_hash range) (coun
 -- ---- one more item
 
 -- the last item of a bucket stays that where others follow
-stays_last : (bucket : ℕ) (xs ys : List ℕ) (count last : ℕ) → count ≤ length xs → IsLast bucket xs count last → IsLast bucket (xs ++ ys) count last
+stays_last : (bucket : ℕ) (xs ys : List ℕ) (count last : ℕ) → count ≤ length xs → IsLastIn bucket xs count last → IsLastIn bucket (xs ++ ys) count last
 stays_last bucket xs ys count last fits is = record {
   within = is.within;
   is_of = λ some. let within = is.within in get_or_append_left xs ys 0 (last - 1) (omega arith) ∙ is.is_of some;
@@ -26,7 +26,7 @@ stays_last bucket xs ys count last fits is = record {
 }
 
 -- it is the one that is put behind the others
-new_last : (bucket : ℕ) (xs : List ℕ) (last : ℕ) → last ≡ length xs + 1 → IsLast bucket (xs ++ bucket ∷ []) (length (xs ++ bucket ∷ [])) last
+new_last : (bucket : ℕ) (xs : List ℕ) (last : ℕ) → last ≡ length xs + 1 → IsLastIn bucket (xs ++ bucket ∷ []) (length (xs ++ bucket ∷ [])) last
 new_last bucket xs last at = record {
   within = omega (arith, length-append xs (bucket ∷ []));
   is_of = λ some. subst (λ i. get_or (xs ++ bucket ∷ []) i 0 ≡ bucket) {x = length xs} (omega arith) (get_or-append_seam xs bucket [] 0);
@@ -34,7 +34,7 @@ new_last bucket xs last at = record {
 }
 
 -- or the same as before, where that is of another bucket
-other_last : (bucket other : ℕ) (xs : List ℕ) (last : ℕ) → (other ≡ bucket → ⊥) → IsLast bucket xs (length xs) last → IsLast bucket (xs ++ other ∷ []) (length (xs ++ other ∷ [])) last
+other_last : (bucket other : ℕ) (xs : List ℕ) (last : ℕ) → (other ≡ bucket → ⊥) → IsLastIn bucket xs (length xs) last → IsLastIn bucket (xs ++ other ∷ []) (length (xs ++ other ∷ [])) last
 other_last bucket other xs last apart is =
     let stays = stays_last bucket xs (other ∷ []) (length xs) last (omega arith) is in
     record {
@@ -56,25 +56,25 @@ chained_more last before buckets bucket within is = record {
   of_each = λ own there. elim (cases_eq own bucket) [
     | inl e ↦
         let same = is.as_long in
-        subst (λ b. IsLast b (buckets ++ bucket ∷ []) (length (buckets ++ bucket ∷ [])) (get_or (set last bucket (length before + 1)) b 0)) (sym e)
+        subst (λ b. IsLastIn b (buckets ++ bucket ∷ []) (length (buckets ++ bucket ∷ [])) (get_or (set last bucket (length before + 1)) b 0)) (sym e)
         (new_last bucket buckets (get_or (set last bucket (length before + 1)) bucket 0)
         (get_or-set_same last bucket (length before + 1) 0 within ∙ ap (λ n. n + 1) same))
     | inr apart ↦
-        subst (IsLast own (buckets ++ bucket ∷ []) (length (buckets ++ bucket ∷ []))) (sym (get_or-set_other last bucket own (length before + 1) 0 apart))
+        subst (IsLastIn own (buckets ++ bucket ∷ []) (length (buckets ++ bucket ∷ []))) (sym (get_or-set_other last bucket own (length before + 1) 0 apart))
         (other_last own bucket buckets (get_or last own 0) (λ e. apart (sym e)) (is.of_each own (omega (arith, length-set last bucket (length before + 1)))))
   ];
   before_each = λ place there. elim (cases_lt place (length buckets)) [
     | inl lower ↦
         let same = is.as_long in
-        subst (λ b. IsLast b (buckets ++ bucket ∷ []) place (get_or (before ++ get_or last bucket 0 ∷ []) place 0)) (sym (get_or_append_left buckets (bucket ∷ []) 0 place lower))
-        (subst (IsLast (get_or buckets place 0) (buckets ++ bucket ∷ []) place) (sym (get_or_append_left before (get_or last bucket 0 ∷ []) 0 place (omega arith)))
+        subst (λ b. IsLastIn b (buckets ++ bucket ∷ []) place (get_or (before ++ get_or last bucket 0 ∷ []) place 0)) (sym (get_or_append_left buckets (bucket ∷ []) 0 place lower))
+        (subst (IsLastIn (get_or buckets place 0) (buckets ++ bucket ∷ []) place) (sym (get_or_append_left before (get_or last bucket 0 ∷ []) 0 place (omega arith)))
         (stays_last (get_or buckets place 0) buckets (bucket ∷ []) place (get_or before place 0) (omega arith) (is.before_each place lower)))
     | inr not ↦
         let same = is.as_long in
         let behind : length buckets ≡ place = omega (arith, length-append buckets (bucket ∷ [])) in
-        subst (λ i. IsLast (get_or (buckets ++ bucket ∷ []) i 0) (buckets ++ bucket ∷ []) i (get_or (before ++ get_or last bucket 0 ∷ []) i 0)) behind
-        (subst (λ b. IsLast b (buckets ++ bucket ∷ []) (length buckets) (get_or (before ++ get_or last bucket 0 ∷ []) (length buckets) 0)) (sym (get_or-append_seam buckets bucket [] 0))
-        (subst (IsLast bucket (buckets ++ bucket ∷ []) (length buckets))
+        subst (λ i. IsLastIn (get_or (buckets ++ bucket ∷ []) i 0) (buckets ++ bucket ∷ []) i (get_or (before ++ get_or last bucket 0 ∷ []) i 0)) behind
+        (subst (λ b. IsLastIn b (buckets ++ bucket ∷ []) (length buckets) (get_or (before ++ get_or last bucket 0 ∷ []) (length buckets) 0)) (sym (get_or-append_seam buckets bucket [] 0))
+        (subst (IsLastIn bucket (buckets ++ bucket ∷ []) (length buckets))
         (sym (subst (λ i. get_or (before ++ get_or last bucket 0 ∷ []) i 0 ≡ get_or last bucket 0) same (get_or-append_seam before (get_or last bucket 0) [] 0)))
         (stays_last bucket buckets (bucket ∷ []) (length buckets) (get_or last bucket 0) (omega arith) (is.of_each bucket within))))
   ];
@@ -127,7 +127,7 @@ module _ (count : ℕ) (range : KeyRange) (ranges : List KeyRange) where
   same_bucket i d within same = get_or-map (bucket_of count) ranges i d 0 within ∙ sym (ap (bucket_of count) (is_same_range-equal range (get_or ranges i d) same))
 
   -- it is looked for at first before the place of the last one of its bucket
-  pub left_first : (place : ℕ) → IsLast (bucket_of count range) buckets (length buckets) place → IsLeft range ranges buckets (bucket_of count range) place
+  pub left_first : (place : ℕ) → IsLastIn (bucket_of count range) buckets (length buckets) place → IsLeft range ranges buckets (bucket_of count range) place
   left_first place is = record {
     within = let within = is.within in omega (arith, length-map ranges (bucket_of count));
     is_of = is.is_of;
@@ -136,7 +136,7 @@ module _ (count : ℕ) (range : KeyRange) (ranges : List KeyRange) where
 
   -- and then before that of the one before it
   pub left_next : (place next : ℕ) (own : KeyRange) → 0 < place → IsLeft range ranges buckets (bucket_of count range) place →
-      IsLast (get_or buckets (place - 1) 0) buckets (place - 1) next → own ≡ get_or ranges (place - 1) own → is_same_range range own ≡ false →
+      IsLastIn (get_or buckets (place - 1) 0) buckets (place - 1) next → own ≡ get_or ranges (place - 1) own → is_same_range range own ≡ false →
       IsLeft range ranges buckets (bucket_of count range) next
   left_next place next own some left is here differs = record {
     within = let low = is.within in let within = left.within in omega arith;

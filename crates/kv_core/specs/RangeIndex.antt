@@ -14,7 +14,7 @@ abbrev pub bucket_of : ℕ → KeyRange → ℕ
 bucket_of count range = bit_and (range_hash range) (count - 1)
 
 -- the last of the first so many items that is of this bucket, as its place and 1, or 0 where there is none
-pub record IsLast (bucket : ℕ) (buckets : List ℕ) (count last : ℕ) : Type 0 where
+pub record IsLastIn (bucket : ℕ) (buckets : List ℕ) (count last : ℕ) : Type 0 where
   pub within : last ≤ count
   pub is_of : 0 < last → slice_index buckets (last - 1) ≡ bucket
   pub is_last : (place : ℕ) → place < count → slice_index buckets place ≡ bucket → place < last
@@ -22,10 +22,10 @@ pub record IsLast (bucket : ℕ) (buckets : List ℕ) (count last : ℕ) : Type 
 -- which item is the last of each bucket, and which one of its bucket comes before each, where the items are of these
 pub record IsChained (last before buckets : List ℕ) : Type 0 where
   pub as_long : length before ≡ length buckets
-  pub of_each : (bucket : ℕ) → bucket < length last → IsLast bucket buckets (length buckets) (slice_index last bucket)
+  pub of_each : (bucket : ℕ) → bucket < length last → IsLastIn bucket buckets (length buckets) (slice_index last bucket)
   pub before_each :
       (place : ℕ) → place < length buckets →
-      IsLast (slice_index buckets place) buckets place (slice_index before place)
+      IsLastIn (slice_index buckets place) buckets place (slice_index before place)
 
 -- what is known of a list of ranges, where there are buckets
 abbrev pub HasIndex : RangeIndex → List KeyRange → Type 0

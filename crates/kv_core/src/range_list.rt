@@ -1,6 +1,7 @@
 // The read set of a transaction, as a list of ranges. Held by a commit request (`change`), filled
 // by `txn`, gone through by the resolvers of `cluster_core`.
-ghost use Rattle.std.specs.Prelude.{◌≡◌, ◌<◌, List, [], ◌∷◌, ◌++◌, length, IsTrue, IfOk, IsOk, OnOk, OnErr};
+ghost use Rattle.std.specs.Prelude.{◌≡◌, ◌<◌, List, [], ◌∷◌, ◌++◌, length};
+ghost use Rattle.std.specs.Prelude.{IsTrue, IfOk, IsOk, OnOk, OnErr};
 ghost use Rattle.std.specs.List.{list_any};
 ghost use Rattle.kv_core.specs.Range.{KeyRange as Range, is_same_range, with_range, any_meets};
 ghost use Rattle.kv_core.specs.RangeIndex.{HasIndex, bucket_of};

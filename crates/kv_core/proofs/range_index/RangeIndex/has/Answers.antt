@@ -1,6 +1,6 @@
 use Rattle.std.proofs.Common.{◌≡◌, ◌∙◌, ◌<◌, ◌-◌, ap, arith, get_or, length, map, subst, sym}
 use Rattle.std.proofs.lemmas.List.{get_or_read, length-map}
-use Rattle.kv_core.specs.RangeIndex.{IsLast, bucket_of}
+use Rattle.kv_core.specs.RangeIndex.{IsLastIn, bucket_of}
 use Rattle.kv_core.proofs.Indexes.{IsLeft, bucket_within, left_first, left_next, left_none}
 use Rattle.kv_core.proofs.range_index.RangeIndex.has.Goals as goal
 
@@ -30,7 +30,7 @@ loop-place-preserved c =
     let there : place - 1 < length buckets = omega (arith, length-map ranges (bucket_of (length last))) in
     let read = get_or_read before _ _ (omega arith) c.index-place-in-loop-place.ensures 0 in
     left_next (length last) range ranges place c.index-place-in-loop-place.result.now c.index-ranges-place.result some c.loop-place.invariant
-    (subst (IsLast (get_or buckets (place - 1) 0) buckets (place - 1)) (sym read) (chained.before_each (place - 1) there))
+    (subst (IsLastIn (get_or buckets (place - 1) 0) buckets (place - 1)) (sym read) (chained.before_each (place - 1) there))
     c.index-ranges-place.is (sym c.is_same.ensures ∙ c.if-is_same.false)
 
 pub returns : goal.returns
