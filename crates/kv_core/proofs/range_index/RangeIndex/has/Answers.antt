@@ -1,4 +1,4 @@
-use Rattle.std.proofs.Common.{◌≡◌, ◌∙◌, ◌<◌, ◌-◌, ap, arith, get_or, length, map, subst, sym}
+use Rattle.std.proofs.Common.{◌∙◌, ◌<◌, ◌-◌, ap, arith, get_or, length, map, subst, sym}
 use Rattle.std.proofs.lemmas.List.{get_or_read, length-map}
 use Rattle.kv_core.specs.RangeIndex.{IsLastIn, bucket_of}
 use Rattle.kv_core.proofs.Indexes.{IsLeft, bucket_within, left_first, left_next, left_none}

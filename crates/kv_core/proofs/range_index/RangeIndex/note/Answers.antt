@@ -1,4 +1,4 @@
-use Rattle.std.proofs.Common.{◌∙◌, arith}
+use Rattle.std.proofs.Common.{arith}
 use Rattle.std.proofs.lemmas.List.{get_or_read, length-set}
 use Rattle.kv_core.proofs.Indexes.{noted}
 use Rattle.kv_core.proofs.range_index.RangeIndex.note.Goals as goal
