@@ -12,8 +12,8 @@ use std::alloc::Global;
 /// to.
 #[derive(Drop)]
 pub struct Base {
-    pub(crate) entries: Vec<Entry>,
-    pub(crate) image: Image,
+    pub entries: Vec<Entry>,
+    pub image: Image,
     pub ghost logged: { IsLogged entries.items image },
 }
 

@@ -61,16 +61,12 @@ impl Model for CommitState {
         (due_of h.in_flight (h.publisher.published ++ h.publisher.pending)) h.last.items };
 
     ghost invariant = { λ h.
-        (h.head ≡ h.publisher.name.book)
-        × (h.prefix ≡ log_prefix h.publisher.name (h.publisher.published ++ h.publisher.pending))
-        × IsInFlight h.publisher.name (h.publisher.published ++ h.publisher.pending)
-        (whole h.pipeline) h.in_flight
-        × (is_numbered h.last.items
-        (due_of h.in_flight (h.publisher.published ++ h.publisher.pending)) ≡ true)
-        × AreGiven h.last.items
-        (due_of h.in_flight (h.publisher.published ++ h.publisher.pending))
-        × AreCounted h.last.items
-        (due_of h.in_flight (h.publisher.published ++ h.publisher.pending)) };
+        let log = h.publisher.published ++ h.publisher.pending in
+        (h.head ≡ h.publisher.name.book) × (h.prefix ≡ log_prefix h.publisher.name log)
+        × IsInFlight h.publisher.name log (whole h.pipeline) h.in_flight
+        × (is_numbered h.last.items (due_of h.in_flight log) ≡ true)
+        × AreGiven h.last.items (due_of h.in_flight log)
+        × AreCounted h.last.items (due_of h.in_flight log) };
 }
 
 impl CommitState {
@@ -367,8 +363,8 @@ impl CommitState {
     }
 
     /// The state of a database that goes on from this, without entries of its own, for as many
-    /// clients as the configuration has places, in which what is committed is kept, or isn't;
-    /// refused as by `Pipeline::new`.
+    /// clients as there are places, in which what is committed is kept, or isn't; refused as by
+    /// `Pipeline::new`.
     pub fn open<R: Wait>(
         rt: &R,
         alloc: Global,

@@ -8,30 +8,10 @@ use command_log::Entry;
 use logbook::{Opening, Rule, Seen, Start};
 use std::marker::Model;
 
-/// The rule of a log that is never changed.
+/// The rule of a log that is never changed, whatever it has.
 pub struct Still;
 
-impl Rule<Config, u64> for Still {
-    ghost use Rattle.std.specs.Prelude.{[]};
-    ghost use base.Fml.{ftrue};
-
-    ghost holds = { λ cells log. Unit {0} };
-
-    ghost first = { [] };
-
-    ghost hinted = { λ n log. Unit {0} };
-
-    ghost shows = { λ log. [] };
-
-    ghost keeps = { λ names log. ftrue };
-
-    ghost moves = { λ ask before after answer. Unit {0} };
-}
-
-/// The same of a log of entries.
-pub struct StillEntries;
-
-impl Rule<Entry, u64> for StillEntries {
+impl<T> Rule<T, u64> for Still {
     ghost use Rattle.std.specs.Prelude.{[]};
     ghost use base.Fml.{ftrue};
 
@@ -71,7 +51,7 @@ pub struct LogOrigin {
     start: u64,
     window: u64,
     config: Seen<Config, u64, Still>,
-    before: Seen<Entry, u64, StillEntries>,
+    before: Seen<Entry, u64, Still>,
 }
 
 impl Model for LogOrigin {
