@@ -362,9 +362,8 @@ impl CommitState {
         publisher.close(rt);
     }
 
-    /// The state of a database that goes on from this, without entries of its own, for as many
-    /// clients as there are places, in which what is committed is kept, or isn't; refused as by
-    /// `Pipeline::new`.
+    /// The state of a database that goes on from this and has no entry yet, for as many clients as
+    /// there are places, of which what is committed is kept or isn't; refused as `Pipeline::new` is.
     pub fn open<R: Wait>(
         rt: &R,
         alloc: Global,
@@ -376,9 +375,8 @@ impl CommitState {
         ensures allowed { OnOk result (IsNone (config_refusal config.now)) }
         ensures refused { IfErr result (λ error.
             (error ≡ ConfigError.Memory) ⊎ (config_refusal config.now ≡ Some error)) }
-        ensures origin { IfOk result (λ state.
-            state.name.origin ≡ origin_of config.now base.now.entries.items) }
-        ensures kept { IfOk result (λ state. state.name.kept ≡ kept) }
+        ensures name { IfOk result (λ state. (state.name.kept ≡ kept)
+            × (state.name.origin ≡ origin_of config.now base.now.entries.items)) }
         ensures empty { IfOk result (λ state.
             (state.published ≡ []) × (state.log ≡ []) × (state.due ≡ [])) }
         ensures clients { IfOk result (λ state. length state.last ≡ config.now.places) }
