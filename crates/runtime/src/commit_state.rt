@@ -363,7 +363,7 @@ impl CommitState {
     }
 
     /// The state of a database that goes on from this and has no entry yet, for as many clients as
-    /// there are places, of which what is committed is kept or isn't; refused as `Pipeline::new` is.
+    /// there are places, in which what is committed is kept or isn't. Refused as by `Pipeline::new`.
     pub fn open<R: Wait>(
         rt: &R,
         alloc: Global,

@@ -44,8 +44,8 @@ impl Opening<Vec<Entry>, Entry> for Found {
     ghost log = { λ count entries. entries.items };
 }
 
-/// What a database began with, as clauses see it, which can be copied: only the start and the window
-/// of its configuration are kept as bytes.
+/// What a database began with, as clauses see it, which can be copied: only the start and the
+/// window of its configuration are kept as bytes.
 #[derive(Drop)]
 pub struct LogOrigin {
     start: u64,
