@@ -12,6 +12,7 @@ use Rattle.replay.specs.Logged.{ComeInOrder, last_version, log_database}
 use Rattle.replay.specs.Pairs.{all_pairs}
 use Rattle.replay.specs.Replaying.{Image, IsLogged}
 use Rattle.replay.proofs.Wholes.{pairs_suffice}
+use Rattle.runtime.specs.declared.log_entry.Entry.{Entry as LogEntry}
 use Rattle.runtime.specs.Origins.{MayBegin, Origin, base_of, origin_of, stores_before}
 use Rattle.runtime.specs.Logs.{log_map, log_tier}
 use Rattle.runtime.proofs.ServersOver.{tier_first}
@@ -21,12 +22,15 @@ pub logged_none : IsLogged [] (record { map = empty; version = 0 })
 logged_none = record { lawful = record { in_order = tt; replayable = tt }; map = refl; holds = holds_nothing; version = refl }
 
 -- it may begin at a version that isn't below the last one
-pub may_begin : (config : Config) (entries : List Entry) (image : Image) → IsLogged entries image → image.version ≤ config.start → MayBegin (origin_of config entries)
-may_begin config entries image is above = record {
+begins : (config : Config) (entries : List Entry) (image : Image) → IsLogged entries image → image.version ≤ config.start → MayBegin (origin_of config entries)
+begins config entries image is above = record {
   lawful = is.lawful;
   holds = subst (λ (m : Map). HoldsAll m (log_database entries).stores) is.map is.holds;
   above = let last : image.version ≡ last_version 0 entries = is.version in omega (arith, last, above);
 }
+
+pub may_begin : (origin : Origin) (config : Config) (entries : List Entry) (image : Image) → origin ≡ origin_of config entries → IsLogged entries image → image.version ≤ config.start → MayBegin origin
+may_begin origin config entries image is logged above = subst MayBegin (sym is) (begins config entries image logged above)
 
 last_above : (version : ℕ) (entries : List Entry) → ComeInOrder version entries → version ≤ last_version version entries
 last_above version [] come = omega arith
@@ -53,8 +57,9 @@ pub tier_of_pairs : (config : Config) (entries : List Entry) (image : Image) (pa
 tier_of_pairs config entries image pairs tier is all made = made ∙ ap (λ (m : Map). first_tier_over m config) (ap from_entries all ∙ pairs_suffice entries image is)
 
 -- they have pulled the empty log
-pub tier_begins : (origin : Origin) (image : Image) (tier : TierState) → IsLogged origin.before image → tier ≡ first_tier_over image.map origin.config → tier ≡ log_tier origin []
-tier_begins origin image tier is made = made ∙ ap (λ (m : Map). first_tier_over m origin.config) is.map
+pub tier_begins : (origin : Origin) (log : List LogEntry) (config : Config) (entries : List Entry) (image : Image) (tier : TierState) → origin ≡ origin_of config entries → log ≡ [] → IsLogged entries image → tier ≡ first_tier_over image.map config → tier ≡ log_tier origin log
+tier_begins origin log config entries image tier is none logged made =
+    made ∙ ap (λ (m : Map). first_tier_over m config) logged.map ∙ (λ i. log_tier (sym is i) (sym none i))
 
 -- the map at its first version is what the entries come to
 pub map_first : (config : Config) (entries : List Entry) (image : Image) (origin : Origin) → IsLogged entries image → origin ≡ origin_of config entries → log_map origin [] config.start ≡ image.map
