@@ -1,5 +1,5 @@
 -- What a database goes on from.
-use Rattle.std.proofs.Common.{◌≡◌, ◌∙◌, ℕ, ◌<◌, ◌≤◌, List, [], ◌∷◌, Vec, ap, refl, sym, subst, arith}
+use Rattle.std.proofs.Common.{◌≡◌, ◌∙◌, ℕ, ◌<◌, ◌≤◌, List, [], ◌∷◌, Vec, ap, refl, sym, subst, subst₂, arith}
 use Rattle.std.specs.FinMap.{empty, from_entries}
 use Rattle.kv_core.specs.Map.{Map}
 use Rattle.cluster_core.specs.declared.answers.Config.{Config}
@@ -18,8 +18,14 @@ use Rattle.runtime.specs.Logs.{log_map, log_tier}
 use Rattle.runtime.proofs.ServersOver.{tier_first}
 
 -- a database without entries is what none come to
-pub logged_none : IsLogged [] (record { map = empty; version = 0 })
-logged_none = record { lawful = record { in_order = tt; replayable = tt }; map = refl; holds = holds_nothing; version = refl }
+abbrev no_image : Image
+no_image = record { map = empty; version = 0 }
+
+nothing_logged : IsLogged [] no_image
+nothing_logged = record { lawful = record { in_order = tt; replayable = tt }; map = refl; holds = holds_nothing; version = refl }
+
+pub logged_none : (entries : List Entry) (image : Image) → entries ≡ [] → image ≡ record { map = empty; version = 0 } → IsLogged entries image
+logged_none entries image none is = subst₂ IsLogged (sym none) (sym is) nothing_logged
 
 -- it may begin at a version that isn't below the last one
 begins : (config : Config) (entries : List Entry) (image : Image) → IsLogged entries image → image.version ≤ config.start → MayBegin (origin_of config entries)
