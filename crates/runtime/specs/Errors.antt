@@ -12,13 +12,13 @@ use Rattle.runtime.specs.declared.answers.CommandError.TheVariants as commands
 use Rattle.runtime.specs.declared.answers.RunError.{RunError}
 use Rattle.runtime.specs.declared.answers.RunError.TheVariants.{Refused}
 use Rattle.runtime.specs.declared.answers.OpenError.{OpenError}
-use Rattle.runtime.specs.declared.answers.OpenError.TheVariants.{Origin, Memory}
+use Rattle.runtime.specs.declared.answers.OpenError.TheVariants.{Config, Memory}
 
 -- a configuration is refused so
 abbrev pub config_error : ConfigError → OpenError
 config_error configs.Memory = Memory
-config_error configs.BadCount = Origin configs.BadCount
-config_error configs.BadSplits = Origin configs.BadSplits
+config_error configs.BadCount = Config configs.BadCount
+config_error configs.BadSplits = Config configs.BadSplits
 
 -- a command has no reply for this
 abbrev pub command_error : EnterError → CommandError

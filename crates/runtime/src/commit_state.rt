@@ -1,5 +1,4 @@
-// The commit side, under the commit lock: one request at a time, which the pipeline orders, the
-// history records and the publisher shows. Made by `db`, used by `handing_in` and `group_commit`.
+// The commit side under the lock, a request at a time. Used by `db`, `handing_in`, `group_commit`.
 ghost use Rattle.std.specs.Prelude.{◌≡◌, ℕ, ◌+◌, ◌-◌, ◌^◌, ◌<◌, ◌≤◌, [], length, slice_index};
 ghost use Rattle.std.specs.Prelude.{IfOk, IfErr, IfSome, IsNone, MatchResult, OnOk, Some, Err, ◌⊎◌};
 ghost use Rattle.std.specs.Bool.{OnTrue, OnFalse};
@@ -9,6 +8,7 @@ ghost use Rattle.cluster_core.specs.Roles.{told};
 ghost use Rattle.runtime.specs.CommitStates.{IsHandled, IsOneDue, LeavesEntry, commit_view};
 ghost use Rattle.runtime.specs.History.{log_prefix};
 ghost use Rattle.runtime.specs.Logs.{AreGiven, HasEarlier, IsOpenOver, cause_next, version_of};
+ghost use Rattle.replay.specs.Replaying.{IsLogged};
 ghost use Rattle.runtime.specs.Origins.{origin_of};
 ghost use Rattle.runtime.specs.Outcomes.{GivesNext, IsEndOf, next_entry};
 ghost use Rattle.runtime.specs.Publication.{knows};
@@ -56,9 +56,8 @@ impl Model for CommitState {
     ghost coded = { Prim.hlevel (codes, entries.the_row.coded, kept_entries.the_row.coded) };
 
     ghost view = { λ h.
-        commit_view h.publisher.name h.publisher.published
-        (h.publisher.published ++ h.publisher.pending)
-        (due_of h.in_flight (h.publisher.published ++ h.publisher.pending)) h.last.items };
+        let log = h.publisher.published ++ h.publisher.pending in
+        commit_view h.publisher.name h.publisher.published log (due_of h.in_flight log) h.last.items };
 
     ghost invariant = { λ h.
         let log = h.publisher.published ++ h.publisher.pending in
@@ -371,7 +370,8 @@ impl CommitState {
         base: &Base,
         kept: bool,
     ) -> Result<CommitState, ConfigError>
-        requires { base.now.image.version ≤ config.now.start }
+        requires logged { IsLogged base.now.entries.items base.now.image }
+        requires above { base.now.image.version ≤ config.now.start }
         ensures allowed { OnOk result (IsNone (config_refusal config.now)) }
         ensures refused { IfErr result (λ error.
             (error ≡ ConfigError.Memory) ⊎ (config_refusal config.now ≡ Some error)) }

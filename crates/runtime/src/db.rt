@@ -8,6 +8,7 @@ ghost use Rattle.cluster_core.specs.declared.answers.ConfigError.{ConfigError as
 ghost use Rattle.runtime.specs.Publication.{knows};
 ghost use Rattle.runtime.specs.History.{Name};
 ghost use Rattle.runtime.specs.Clients.{knows_that, fresh_clients};
+ghost use Rattle.replay.specs.Replaying.{IsLogged};
 ghost use Rattle.runtime.specs.Logs.{log_map};
 ghost use Rattle.runtime.specs.Origins.{origin_of};
 
@@ -162,6 +163,7 @@ pub fn open_kept_over<E: End, R: Wait>(
     base: &Base,
 ) -> Result<Vec<Client<E>>, OpenError>
     requires file { E.has end base.now.entries.items }
+    requires logged { IsLogged base.now.entries.items base.now.image }
     requires above { base.now.image.version ≤ config.now.start }
     ensures clients { IfOk result (λ clients.
         (name : Name) × (name.origin ≡ origin_of config.now base.now.entries.items)

@@ -9,6 +9,7 @@ ghost use Rattle.runtime.specs.Logs.{IsWellFormedLog, are_in_turn, history_of, i
 ghost use Rattle.runtime.specs.Logs.{version_of};
 ghost use Rattle.cluster_core.specs.History.{IsLegalOver};
 ghost use Rattle.runtime.specs.History.{log_prefix, submitted_entry};
+ghost use Rattle.replay.specs.Replaying.{IsLogged};
 ghost use Rattle.runtime.specs.Origins.{MayBegin, base_of, origin_of};
 
 use crate::base::Base;
@@ -116,7 +117,8 @@ impl Model for LogPrefix {
 /// which what is committed is kept, or isn't.
 #[tactic(auto, using(crate::proofs::WellFormed::lawful_first, crate::proofs::Bases::may_begin))]
 pub fn opened(config: &Config, base: &Base, kept: bool) -> (LogHead, LogPrefix)
-    requires { base.now.image.version ≤ config.now.start }
+    requires logged { IsLogged base.now.entries.items base.now.image }
+    requires above { base.now.image.version ≤ config.now.start }
     ensures empty { result.1.log ≡ [] }
     ensures name { (result.1.name.origin ≡ origin_of config.now base.now.entries.items)
         × (result.1.name.book ≡ result.0) × (result.1.name.kept ≡ kept) }

@@ -1,7 +1,8 @@
 // The published state, and the operations on it. Used by `publication`, `publisher`,
 // `commit_state`, `in_flight` and `published_reads`.
-ghost use Rattle.std.specs.Prelude.{◌≡◌, ◌⊎◌, ◌≤◌, [], Some, IfOk, IfErr};
+ghost use Rattle.std.specs.Prelude.{◌≡◌, ◌⊎◌, ◌≤◌, [], Some, IfOk, IfErr, IsNone, OnOk};
 ghost use Rattle.cluster_core.specs.Configuration.{config_refusal, first_tier_over};
+ghost use Rattle.replay.specs.Replaying.{IsLogged};
 ghost use Rattle.runtime.specs.Origins.{origin_of};
 ghost use Rattle.runtime.specs.Publication.{IsFold};
 
@@ -42,8 +43,10 @@ pub struct View {
 /// `Tier::new` refuses the configuration.
 #[tactic(auto, using(crate::proofs::Bases::bases))]
 fn tier_over(alloc: Global, config: &Config, base: &Base) -> Result<Tier, ConfigError>
-    requires { base.now.image.version ≤ config.now.start }
+    requires logged { IsLogged base.now.entries.items base.now.image }
+    requires above { base.now.image.version ≤ config.now.start }
     ensures made { IfOk result (λ tier. tier ≡ first_tier_over base.now.image.map config.now) }
+    ensures allowed { OnOk result (IsNone (config_refusal config.now)) }
     ensures refused { IfErr result (λ error.
         (error ≡ ConfigError.Memory) ⊎ (config_refusal config.now ≡ Some error)) }
 {
@@ -66,6 +69,7 @@ impl Published {
     ) -> Result<Published, ConfigError>
         requires prefix { (prefix.now.log ≡ [])
             × (prefix.now.name.origin ≡ origin_of config.now base.now.entries.items) }
+        requires logged { IsLogged base.now.entries.items base.now.image }
         requires above { base.now.image.version ≤ config.now.start }
         ensures made { IfOk result (λ p. (p.prefix ≡ prefix.now) × IsFold p) }
         ensures refused { IfErr result (λ error.

@@ -4,6 +4,7 @@ ghost use Rattle.std.specs.Prelude.{IfOk, IfErr, MatchResult};
 ghost use Rattle.cluster_core.specs.Configuration.{config_refusal};
 ghost use Rattle.left_right.specs.Sides.{view};
 ghost use Rattle.runtime.specs.History.{database_name, log_prefix, submitted_entry};
+ghost use Rattle.replay.specs.Replaying.{IsLogged};
 ghost use Rattle.runtime.specs.Origins.{origin_of};
 ghost use Rattle.runtime.specs.Publication.{Leads, knows, publisher_view};
 
@@ -56,6 +57,7 @@ impl Publisher {
         readers: usize,
     ) -> Result<(Publisher, LogHead), ConfigError>
         requires readers { (0 < readers) × (readers < 2 ^ 32) }
+        requires logged { IsLogged base.now.entries.items base.now.image }
         requires above { base.now.image.version ≤ config.now.start }
         ensures made { IfOk result (λ r.
             r.0 ≡ publisher_view

@@ -10,7 +10,7 @@ use Rattle.runtime.proofs.Places.{places_counted}
 use Rattle.runtime.proofs.commit_state.CommitState.open.Goals as goal
 
 pub open-requires : goal.open-requires
-open-requires g c = record { readers = places_counted c.args.config.now c.in_ok-pipeline.ensures.allowed; above = c.requires }
+open-requires g c = record { readers = places_counted c.args.config.now c.in_ok-pipeline.ensures.allowed; logged = c.requires.logged; above = c.requires.above }
 
 pub invariant_of-result : goal.invariant_of-result
 invariant_of-result g c =
