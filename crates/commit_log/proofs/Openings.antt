@@ -1,5 +1,5 @@
 -- The entries of a file that is opened.
-use Rattle.std.proofs.Common.{◌≡◌, ◌∙◌, ℕ, zero, suc, ◌+◌, ◌<◌, List, [], ◌∷◌, ◌++◌, Vec, Global, get_or, length, take, sym, ap, subst, arith}
+use Rattle.std.proofs.Common.{◌≡◌, ◌∙◌, ℕ, ◌+◌, ◌<◌, List, [], ◌∷◌, ◌++◌, Vec, Global, get_or, length, take, sym, ap, subst}
 use Rattle.std.proofs.lemmas.List.{map-append, take_more}
 use Rattle.command_log.specs.Answers.{IsWrittenAs}
 use Rattle.command_log.specs.declared.entry.Entry.{Entry}
@@ -12,13 +12,6 @@ use Rattle.journal.specs.Journal.{entries_read}
 use Rattle.journal.specs.Words.{bytes_of_each}
 use Rattle.replay.specs.Replaying.{AreWrittenAs}
 use Rattle.commit_log.proofs.Batches.{written_append}
-
--- the bytes at a place are those of an entry
-pub written_at : (log : List (Vec ℕ Global)) (entries : List Entry) (i : ℕ) (v : Vec ℕ Global) → i < length log → v ≡ get_or log i v → AreWrittenAs (bytes_of_each log) entries → (entry : Entry) × IsWrittenAs v.items entry
-written_at [] entries i v inside at are = absurd (omega (arith, inside))
-written_at (first ∷ log) [] i v inside at are = absurd are
-written_at (first ∷ log) (entry ∷ entries) zero v inside at are = (entry, subst (λ (w : Vec ℕ Global). IsWrittenAs w.items entry) (sym at) are.0)
-written_at (first ∷ log) (entry ∷ entries) (suc i) v inside at are = written_at log entries i v (omega (arith, inside)) at are.1
 
 -- one entry more
 pub read_turn : (log : List (Vec ℕ Global)) (i : ℕ) (v : Vec ℕ Global) (made : List Entry) (entry : Entry) → i < length log → v ≡ get_or log i v → AreWrittenAs (bytes_of_each (take i log)) made → IsWrittenAs v.items entry →

