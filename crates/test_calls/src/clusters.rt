@@ -1,5 +1,5 @@
-// Steps of the whole cluster and of its roles. Run as a test.
-use crate::configs::{config_of, logs_and_window};
+// Steps of the whole cluster and of its roles. Run as a test; `bases` takes the same steps.
+use crate::bases::{begun, renew, renew_over};
 use cluster_core::{Cluster, Work};
 use std::alloc::Global;
 use std::test::Fail;
@@ -8,12 +8,15 @@ use txn::Snapshot;
 
 /// What is done with a cluster: a step takes a number and two texts.
 #[derive(Clone, Copy)]
-enum Step {
+pub(crate) enum Step {
     /// Begins anew: at the version of the number, with the second text's logs and window, and with the first text's
     /// splits between resolvers, between servers, or between both.
     Resolvers,
     Servers,
     Both,
+    /// Begins anew over the pairs of the first text, at the version of the number, with the second text's logs and
+    /// window, and resolvers and servers that meet at the key 62.
+    Over,
     /// Submits a request that read at the version the ranges of the first text, and writes the second.
     Submit,
     /// Has one resolver, one log, or one server, take its next version.
@@ -40,8 +43,8 @@ enum Step {
 }
 
 use Step::{
-    Append, Back, Both, Commit, Lose, Pull, PullEach, Read, Report, Requests, Resolve, Resolvers,
-    Servers, Settle, Submit, Version, Write,
+    Append, Back, Both, Commit, Lose, Over, Pull, PullEach, Read, Report, Requests, Resolve,
+    Resolvers, Servers, Settle, Submit, Version, Write,
 };
 
 /// Between sixteen roles, and a key of each.
@@ -50,7 +53,7 @@ const SIXTEEN: &str = "10 20 30 40 50 60 70 80 90 a0 b0 c0 d0 e0 f0";
 const A_KEY_OF_EACH: &str =
     "05=00 15=01 25=02 35=03 45=04 55=05 65=06 75=07 85=08 95=09 a5=0a b5=0b c5=0c d5=0d e5=0e f5=0f";
 
-type Row = (Step, u64, &'static str, &'static str, &'static str);
+pub(crate) type Row = (Step, u64, &'static str, &'static str, &'static str);
 
 /// Steps, and what is told of each: of a beginning the numbers of resolvers, logs and servers.
 static STEPS: [Row; 163] = [
@@ -246,28 +249,6 @@ static STEPS: [Row; 163] = [
     (Requests, 0, "", "", "3"),
 ];
 
-fn begun(alloc: Global, start: u64, splits: (&str, &str), counts: &str) -> Result<Cluster, Fail> {
-    let (logs, window) = logs_and_window(counts)?;
-    let config = config_of(alloc, splits, logs, window, start)?;
-    Ok(Cluster::new(alloc, &config)?)
-}
-
-fn roles_of(alloc: Global, cluster: &Cluster) -> Result<String, Fail> {
-    let (resolvers, logs, servers) = (cluster.resolvers(), cluster.logs(), cluster.servers());
-    Ok(format!(in alloc; "{resolvers} {logs} {servers}")?)
-}
-
-fn renew(
-    alloc: Global,
-    cluster: &mut Cluster,
-    start: u64,
-    splits: (&str, &str),
-    counts: &str,
-) -> Result<String, Fail> {
-    *cluster = begun(alloc, start, splits, counts)?;
-    roles_of(alloc, cluster)
-}
-
 /// The version of the ticket, or the refusal.
 fn submit(
     alloc: Global,
@@ -362,6 +343,7 @@ fn take(
         Resolvers => renew(alloc, cluster, number, (texts.0, ""), texts.1),
         Servers => renew(alloc, cluster, number, ("", texts.0), texts.1),
         Both => renew(alloc, cluster, number, (texts.0, texts.0), texts.1),
+        Over => renew_over(alloc, cluster, number, texts),
         Submit => submit(alloc, cluster, number, texts),
         Report => report_text(alloc, &cluster.report()),
         Settle => settle(alloc, cluster),
@@ -372,6 +354,15 @@ fn take(
         Requests => shown(alloc, &cluster.requests().len()),
         step => shown(alloc, &work(cluster, step, number as usize)?),
     }
+}
+
+/// Takes each step, and fails where something else is told of it.
+pub(crate) fn take_each(alloc: Global, rows: &[Row]) -> Result<(), Fail> {
+    let mut cluster = begun(alloc, 0, ("", ""), "1 1")?;
+    for row in rows {
+        holds(alloc, &mut cluster, row)?;
+    }
+    Ok(())
 }
 
 fn holds(alloc: Global, cluster: &mut Cluster, row: &Row) -> Result<(), Fail> {
@@ -386,9 +377,5 @@ fn holds(alloc: Global, cluster: &mut Cluster, row: &Row) -> Result<(), Fail> {
 
 #[test]
 fn clusters_take_steps(rt: HostRuntime) -> Result<(), Fail> {
-    let mut cluster = begun(rt.alloc(), 0, ("", ""), "1 1")?;
-    for row in &STEPS {
-        holds(rt.alloc(), &mut cluster, row)?;
-    }
-    Ok(())
+    take_each(rt.alloc(), &STEPS)
 }

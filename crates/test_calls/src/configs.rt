@@ -74,13 +74,26 @@ fn refuse(alloc: Global, config: &Config, error: Option<ConfigError>) -> bool {
         && Cluster::new(alloc, config).err() == error
 }
 
+/// The same of both that begin over pairs, of which there are none at the version 0.
+fn refuse_pairs(alloc: Global, config: &Config, error: Option<ConfigError>) -> Result<bool, Fail> {
+    if config.start == 0 {
+        return Err(Fail::from("no first version"));
+    }
+    let (some, more) = (pairs_of(alloc, "61=01")?, pairs_of(alloc, "61=01")?);
+    Ok(
+        Tier::over(alloc, config, some).err() == error
+            && Cluster::over(alloc, config, more).err() == error,
+    )
+}
+
 /// Refused so, or taken, is a configuration with the splits between resolvers, and between servers.
 fn is_refused(alloc: Global, row: &Row) -> Result<(), Fail> {
     let (splits, logs, places, window, error) = row;
     for both in [(*splits, ""), ("", *splits)] {
-        let mut config = config_of(alloc, both, *logs, *window, 0)?;
+        let mut config = config_of(alloc, both, *logs, *window, 1)?;
         config.places = *places;
         holds(refuse(alloc, &config, *error), splits)?;
+        holds(refuse_pairs(alloc, &config, *error)?, splits)?;
     }
     Ok(())
 }
