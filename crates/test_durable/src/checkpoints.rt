@@ -12,12 +12,12 @@ use std::test::Fail;
 /// checkpoint, all.
 static TORN: [usize; 5] = [0, 20, 60, 1000, 1_000_000];
 
-/// How many calls of each device a run makes at most: its opening, a hundred commits, the room that
-/// it writes ahead, and two checkpoints in the first one, three in the second.
-static CALLS: [usize; 2] = [280, 280];
+/// How many calls of each device a run makes at least: a write and a sync for each of a hundred
+/// commits.
+const LEAST: usize = COUNT;
 
-/// How many calls of a device fail in one test, every fourth one.
-const ROUNDS: usize = 70;
+/// A run makes fewer calls of each.
+const MOST: usize = 2 * COUNT;
 
 /// Before which transactions of the run a checkpoint is made.
 fn is_checkpointed(place: usize) -> bool {
@@ -56,16 +56,28 @@ fn committed<D: Device>(
     Ok(COUNT)
 }
 
-/// What is left of two devices.
+/// What is left of two devices, and whether one has failed.
 #[derive(Drop)]
 struct Files {
     count: usize,
+    fails: bool,
     one: Vec<u8>,
     other: Vec<u8>,
 }
 
-fn file_of(alloc: Global, device: Fuse<Memory>) -> Result<Vec<u8>, Fail> {
-    Ok(device.into_inner().bytes().to_vec(alloc)?)
+/// What a run leaves of two devices that acknowledged so many transactions.
+fn files_of(
+    alloc: Global,
+    count: usize,
+    first: Fuse<Memory>,
+    second: Fuse<Memory>,
+) -> Result<Files, Fail> {
+    Ok(Files {
+        count,
+        fails: first.is_blown() || second.is_blown(),
+        one: first.into_inner().bytes().to_vec(alloc)?,
+        other: second.into_inner().bytes().to_vec(alloc)?,
+    })
 }
 
 /// A run over two devices, and what is left of them.
@@ -74,11 +86,7 @@ fn left(alloc: Global, first: Fuse<Memory>, second: Fuse<Memory>) -> Result<File
         Ok(mut db) => {
             let count = committed(alloc, &mut db, 0)?;
             let (log, spare) = db.into_devices();
-            Ok(Files {
-                count,
-                one: file_of(alloc, log)?,
-                other: file_of(alloc, spare)?,
-            })
+            files_of(alloc, count, log, spare)
         }
         Err(
             UnopenedTwo {
@@ -86,11 +94,7 @@ fn left(alloc: Global, first: Fuse<Memory>, second: Fuse<Memory>) -> Result<File
                 second,
                 error: _,
             },
-        ) => Ok(Files {
-            count: 0,
-            one: file_of(alloc, first)?,
-            other: file_of(alloc, second)?,
-        }),
+        ) => files_of(alloc, 0, first, second),
     }
 }
 
@@ -101,7 +105,12 @@ fn opened_anew(
     wanted: &[Vec<(Bytes, Bytes)>],
     files: Files,
 ) -> Result<Checkpointed<Memory>, Fail> {
-    let Files { count, one, other } = files;
+    let Files {
+        count,
+        fails: _,
+        one,
+        other,
+    } = files;
     match open_two(alloc, Memory::new(alloc, one), Memory::new(alloc, other)) {
         Ok(db) => {
             has_all(alloc, wanted, count, db.image())?;
@@ -153,6 +162,7 @@ fn goes_on(
     let (log, spare) = db.into_devices();
     let files = Files {
         count,
+        fails: false,
         one: spare.bytes().to_vec(alloc)?,
         other: log.bytes().to_vec(alloc)?,
     };
@@ -161,26 +171,25 @@ fn goes_on(
     Ok(())
 }
 
-/// Every fourth call of a device fails in turn, from this one on: nothing acknowledged is lost.
+/// Every fourth call of a device fails in turn, from this one on, until the run makes no such call:
+/// nothing acknowledged is lost, and a run is acknowledged whole just where nothing fails.
 fn outlive(alloc: Global, device: usize, first: usize) -> Result<(), Fail> {
     let wanted = databases(alloc)?;
-    let calls = CALLS.get(device).ok_or("a device")?;
-    for round in 0..ROUNDS {
+    for round in 0..MOST / 4 {
         let call = round.wrapping_mul(4).wrapping_add(first);
-        if call >= *calls {
-            break;
-        }
         let torn = TORN.get(round % 5).ok_or("a part")?;
         let files = left_by(alloc, calls_of(device, call), *torn)?;
-        if files.count == COUNT {
-            break;
-        }
+        let fails = files.fails;
+        holds(fails == (files.count < COUNT), "what is acknowledged")?;
         let db = opened_anew(alloc, &wanted, files)?;
+        if !fails {
+            return holds(call >= LEAST, "a run with more calls");
+        }
         if round % 9 == 5 {
             goes_on(alloc, &wanted, db)?;
         }
     }
-    Ok(())
+    Err(Fail::new(format_args!("a run with fewer calls")))
 }
 
 #[test]
@@ -223,16 +232,16 @@ fn other_failed_syncs_of_the_second_device_are_outlived(rt: HostRuntime) -> Resu
     outlive(rt.alloc(), 1, 3)
 }
 
-/// A run makes no more calls, and is opened again from its last checkpoint, whichever file is
-/// handed over first.
+/// A run is opened again from its last checkpoint, whichever file is handed over first.
 #[test]
 fn whole_runs_are_opened(rt: HostRuntime) -> Result<(), Fail> {
     let alloc = rt.alloc();
     let wanted = databases(alloc)?;
-    let files = left_by(alloc, CALLS, 0)?;
+    let files = left_by(alloc, [usize::MAX, usize::MAX], 0)?;
     holds(files.count == COUNT, "a whole run")?;
     let swapped = Files {
         count: files.count,
+        fails: false,
         one: files.other.to_vec(alloc)?,
         other: files.one.to_vec(alloc)?,
     };

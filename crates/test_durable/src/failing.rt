@@ -10,9 +10,11 @@ use std::test::Fail;
 /// How much of the failing call's write stands: nothing, a part of a head, a part of an entry, all.
 static TORN: [usize; 4] = [0, 20, 60, 1000];
 
-/// How many calls of the device a run makes at most: its opening, two for each commit, and two each
-/// time that it writes room ahead.
-const CALLS: usize = 2 * COUNT + 24;
+/// How many calls of the device a run makes at least: two for each commit, a write and a sync.
+const LEAST: usize = 2 * COUNT;
+
+/// A run makes fewer calls.
+const MOST: usize = 3 * COUNT;
 
 /// Commits the run's transactions from this place on, and tells how many are acknowledged.
 fn committed<D: Device>(alloc: Global, db: &mut Durable<D>, from: usize) -> Result<usize, Fail> {
@@ -28,18 +30,15 @@ fn committed<D: Device>(alloc: Global, db: &mut Durable<D>, from: usize) -> Resu
     Ok(COUNT)
 }
 
-/// A run over a device that fails once: how many transactions are acknowledged, and what file is
-/// left.
-fn left(alloc: Global, device: Fuse<Memory>) -> Result<(usize, Vec<u8>), Fail> {
+/// A run over a device that fails in one call, if it comes to that: how many transactions are
+/// acknowledged, and the device then.
+fn left(alloc: Global, device: Fuse<Memory>) -> Result<(usize, Fuse<Memory>), Fail> {
     match open(alloc, device) {
         Ok(mut db) => {
             let count = committed(alloc, &mut db, 0)?;
-            let file = db.into_device().into_inner();
-            Ok((count, file.bytes().to_vec(alloc)?))
+            Ok((count, db.into_device()))
         }
-        Err(Unopened { device, error: _ }) => {
-            Ok((0, device.into_inner().bytes().to_vec(alloc)?))
-        }
+        Err(Unopened { device, error: _ }) => Ok((0, device)),
     }
 }
 
@@ -61,15 +60,19 @@ fn opened_anew(
 }
 
 /// After a failure the file has all acknowledged transactions, and the next one whole or not at
-/// all, and takes the rest of the run.
+/// all, and takes the rest of the run. It is told whether the run came to the call that fails, as
+/// it does just where it isn't acknowledged whole.
 fn is_whole(
     alloc: Global,
     wanted: &[Vec<(Bytes, Bytes)>],
     calls: usize,
     torn: usize,
-) -> Result<usize, Fail> {
+) -> Result<bool, Fail> {
     let memory = Memory::new(alloc, Vec::new(alloc));
-    let (count, file) = left(alloc, Fuse::new(memory, calls, torn))?;
+    let (count, device) = left(alloc, Fuse::new(memory, calls, torn))?;
+    let fails = device.is_blown();
+    holds(fails == (count < COUNT), "what is acknowledged")?;
+    let file = device.into_inner().bytes().to_vec(alloc)?;
     let mut db = opened_anew(alloc, wanted, count, file)?;
     if calls / 4 % 5 == 3 {
         let found = match db.image() {
@@ -80,18 +83,20 @@ fn is_whole(
         let file = db.into_device().bytes().to_vec(alloc)?;
         let _last = opened_anew(alloc, wanted, COUNT, file)?;
     }
-    Ok(count)
+    Ok(fails)
 }
 
-/// Every fourth call of the run fails in turn, from this one on.
+/// Every fourth call of the run fails in turn, from this one on, until the run makes no such call.
 fn outlive(alloc: Global, first: usize) -> Result<(), Fail> {
     let wanted = databases(alloc)?;
-    for round in 0..CALLS / 4 {
+    for round in 0..MOST / 4 {
         let torn = TORN.get(round % 4).ok_or("a part")?;
         let call = round.wrapping_mul(4).wrapping_add(first);
-        is_whole(alloc, &wanted, call, *torn)?;
+        if !is_whole(alloc, &wanted, call, *torn)? {
+            return holds(call >= LEAST, "a run with more calls");
+        }
     }
-    Ok(())
+    Err(Fail::new(format_args!("a run with fewer calls")))
 }
 
 #[test]
@@ -112,14 +117,4 @@ fn other_failed_writes_are_outlived(rt: HostRuntime) -> Result<(), Fail> {
 #[test]
 fn other_failed_syncs_are_outlived(rt: HostRuntime) -> Result<(), Fail> {
     outlive(rt.alloc(), 3)
-}
-
-/// The run makes no more calls.
-#[test]
-fn all_calls_were_tried(rt: HostRuntime) -> Result<(), Fail> {
-    let wanted = databases(rt.alloc())?;
-    holds(
-        is_whole(rt.alloc(), &wanted, CALLS, 0)? == COUNT,
-        "no call fails",
-    )
 }

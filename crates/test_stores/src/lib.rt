@@ -6,6 +6,8 @@ mod appended;
 #[cfg(test)]
 mod damage;
 #[cfg(test)]
+mod going_on;
+#[cfg(test)]
 mod handed;
 #[cfg(test)]
 mod joining;
