@@ -1,4 +1,5 @@
-// Clients that commit on threads of their own, also over a file that fails, and what the file has then. Run as a test.
+// Clients that commit on threads of their own, also over a file that fails, and what the file has
+// then. Run as a test.
 use crate::files::{entries_of, new_path};
 use crate::transactions::{CREATE, committed, opened};
 use command_log::Entry;
@@ -15,8 +16,9 @@ const CLIENTS: usize = 4;
 
 const COMMITS: usize = 25;
 
-/// How many calls of the file are done before the one that fails, how many bytes of that one stand, and whether it
-/// comes to it: each client's commits come one after another, so that there are two calls for each of them at least.
+/// How many calls of the file are done before the one that fails, how many bytes of that one stand,
+/// and whether it comes to it: each client's commits come one after another, so that there are two
+/// calls for each of them at least.
 static FAILING: [(usize, usize, bool); 8] = [
     (usize::MAX, 0, false),
     (12, 0, true),
@@ -46,8 +48,9 @@ fn commit<E: End, R: Wait>(
     committed(rt, alloc, tx, steps)
 }
 
-/// Whether a commit is told to be committed. None where it is told what none is told of one that comes then: after one
-/// of which nothing is told, or that finds the database closed, each one does.
+/// Whether a commit is told to be committed. None where it is told what none is told of one that
+/// comes then: after one of which nothing is told, or that finds the database closed, each one
+/// does.
 fn is_committed(answer: &Result<Done, CommitError>, closed: bool) -> Option<bool> {
     match answer {
         Ok(Done::Committed { .. }) if !closed => Some(true),
@@ -99,7 +102,8 @@ fn counts<E: End + Send, R: Threads + Wait + Sync>(
     thread::map_vec(rt, jobs, &|job| worked(rt, alloc, job)).ok()
 }
 
-/// How many entries of a client there are: they have the numbers from 1 on, in their order. Else none.
+/// How many entries of a client there are: they have the numbers from 1 on, in their order. Else
+/// none.
 fn entries_by(entries: &[Entry], client: usize) -> Option<usize> {
     let mut count: usize = 0;
     for entry in entries {
@@ -125,8 +129,8 @@ fn are_rising(entries: &[Entry]) -> bool {
     true
 }
 
-/// The entries have what each client was told to be committed, and one more of each at most where the file failed,
-/// besides the making of the store.
+/// The entries have what each client was told to be committed, and one more of each at most where
+/// the file failed, besides the making of the store.
 fn have_all(entries: &[Entry], counts: &[Option<usize>], fails: bool) -> Option<bool> {
     let mut told: usize = 0;
     for (client, count) in counts.iter().enumerate() {

@@ -78,7 +78,8 @@ fn told_at<E: End, R: Wait>(
     told(rt, alloc, clients.get_mut(place % 2)?, steps.as_str())
 }
 
-/// Each client of a closed database may look, commits no change, and sees the log of so many commits.
+/// Each client of a closed database may look, commits no change, and sees the log of so many
+/// commits.
 fn is_closed<E: End, R: Wait>(
     rt: &R,
     alloc: Global,
@@ -100,8 +101,8 @@ fn is_closed<E: End, R: Wait>(
     Some(true)
 }
 
-/// A run over a new file that fails in a call: how many of its commits are told to be committed. The first one that
-/// isn't is told nothing, and closes the database.
+/// A run over a new file that fails in a call: how many of its commits are told to be committed.
+/// The first one that isn't is told nothing, and closes the database.
 fn run<R: Wait + Files<File = File>>(
     rt: &R,
     alloc: Global,
@@ -125,7 +126,8 @@ fn run<R: Wait + Files<File = File>>(
     Ok(COUNT)
 }
 
-/// How many entries a file has: of all commits that were told to be committed, and of one more or not.
+/// How many entries a file has: of all commits that were told to be committed, and of one more or
+/// not.
 fn kept_of<R: Files<File = File>>(
     rt: &R,
     alloc: Global,
@@ -158,8 +160,8 @@ fn is_opened_at<R: Files<File = File>>(
     }
 }
 
-/// A run in which a call fails, and what is left: whether all is told to be committed, as it is just where the run
-/// comes to no such call.
+/// A run in which a call fails, and what is left: whether all is told to be committed, as it is
+/// just where the run comes to no such call.
 fn is_outlived<R: Wait + Files<File = File>>(
     rt: &R,
     alloc: Global,

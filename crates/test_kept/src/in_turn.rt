@@ -1,4 +1,5 @@
-// Two clients that commit in turn, and what the file has as soon as each commit is answered. Run as a test.
+// Two clients that commit in turn, and what the file has as soon as each commit is answered. Run as
+// a test.
 use crate::files::{lines_of, new_path, same};
 use crate::transactions::{CREATE, committed, opened, words_of};
 use cluster_core::Config;
@@ -10,8 +11,8 @@ use std::fs::{File, Files};
 use std::sync::Wait;
 use std::test::Fail;
 
-/// A client, a store, what the client does there, what the other one commits meanwhile, what the client is told, and
-/// the lines of what the file has more then.
+/// A client, a store, what the client does there, what the other one commits meanwhile, what the
+/// client is told, and the lines of what the file has more then.
 type Row = (
     usize,
     u64,
@@ -43,7 +44,8 @@ static KEPT: [Row; 10] = [
 [\"save\",1,\"t\",[2,6]]
 ",
     ),
-    // Nothing is kept of who only looks, also for what isn't there, nor of commands that only look or are refused.
+    // Nothing is kept of who only looks, also for what isn't there, nor of commands that only look
+    // or are refused.
     (
         0,
         1,

@@ -1,5 +1,5 @@
-// A database whose commits are kept in a file, and transactions written as the steps of scripts. Called by all tests
-// here.
+// A database whose commits are kept in a file, and transactions written as the steps of scripts.
+// Called by all tests here.
 use cluster_core::Config;
 use commit_log::{DeviceLog, begin_log};
 use journal::Fuse;
@@ -18,8 +18,8 @@ pub(crate) type FailingLog<'a, R> = DeviceLog<Fuse<FileDevice>, &'a R>;
 pub(crate) const CREATE: &str =
     r#"["create",0,{"types":[{"name":"t","fields":[["k","int"],["a","int"]],"key":["k"]}]}]"#;
 
-/// So many clients of a new database over a file, of which the call after so many fails, and so many bytes of it stand.
-/// None where it fails so soon.
+/// So many clients of a new database over a file, of which the call after so many fails, and so
+/// many bytes of it stand. None where it fails so soon.
 pub(crate) fn opened<'a, R: Wait + Files<File = File>>(
     rt: &'a R,
     alloc: Global,

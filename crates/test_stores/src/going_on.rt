@@ -1,4 +1,5 @@
-// Schedules over the pairs that the stores of another one came to, which go on as that one. Run as a test.
+// Schedules over the pairs that the stores of another one came to, which go on as that one. Run as
+// a test.
 use cluster_core::{Cluster, Config};
 use kv_core::Pair;
 use schedule::{Schedule, Step};
@@ -7,7 +8,8 @@ use std::alloc::Global;
 use std::test::Fail;
 use test_parts::{range_of, same};
 
-/// A configuration, steps after which all is settled, steps that come after those, and the lines of these.
+/// A configuration, steps after which all is settled, steps that come after those, and the lines of
+/// these.
 type Row = (&'static str, &'static str, &'static str, &'static str);
 
 /// One role of each kind.
@@ -17,7 +19,8 @@ const SINGLE: &str = "{}";
 const PARTED: &str = r#"{"resolver_splits":["1501150115011502"],"logs":2,"window":3,
     "storage_splits":["1501150115011502","15011502"]}"#;
 
-/// A store whose type has an index of each kind, in which four records are saved and one is removed.
+/// A store whose type has an index of each kind, in which four records are saved and one is
+/// removed.
 const INDEXED: &str = r#"[
     ["begin",0],
     ["create",0,{"types":[{"name":"t","fields":[["k","int"],["a","int"],["b","int"]],"key":["k"]}],
@@ -29,8 +32,8 @@ const INDEXED: &str = r#"[
     ["begin",0],["remove",0,"t",[4]],["commit",0],["settle"]
 ]"#;
 
-/// Records are loaded, asked for and counted, and changed; what is changed is asked for before it is committed, and by
-/// another client after that.
+/// Records are loaded, asked for and counted, and changed; what is changed is asked for before it
+/// is committed, and by another client after that.
 const CHANGED: &str = r#"[
     ["begin",0],
     ["load",0,"t",[2]],["load",0,"t",[4]],
@@ -67,7 +70,8 @@ const CHANGED_LINES: &str = "1 begun 2
 19 read only
 ";
 
-/// Two clients change what both have read, and the second one commits first; the first one tries it again.
+/// Two clients change what both have read, and the second one commits first; the first one tries it
+/// again.
 const TWO_CLIENTS: &str = r#"[
     ["begin",0],["begin",1],
     ["load",0,"t",[3]],["load",1,"t",[3]],
