@@ -1,4 +1,5 @@
-// Clusters that begin, over no pairs or over some, and steps of those over some. Run as a test; `clusters` begins by it.
+// Clusters that begin, over no pairs or over some, and steps of those over some. Run as a test;
+// `clusters` begins by it.
 use crate::clusters::Step::{
     Back, Commit, Lose, Over, Pull, PullEach, Read, Requests, Submit, Version, Write,
 };
@@ -25,7 +26,8 @@ static STEPS: [Row; 57] = [
     (Read, 11, "00-ff", "9", "FutureVersion"),
     (Pull, 1, "", "", "NothingToDo"),
     (Lose, 0, "", "", "NothingToDo"),
-    // What is committed stands over them: a pair that is set, a range that is cleared, a number that is added.
+    // What is committed stands over them: a pair that is set, a range that is cleared, a number
+    // that is added.
     (Write, 0, "", "62=05", "committed 11"),
     (Read, 11, "00-ff", "9", "61=01 62=05 62ff=02 63=03"),
     (Write, 0, "", "6200-63", "committed 12"),
@@ -39,7 +41,8 @@ static STEPS: [Row; 57] = [
     (Read, 11, "62ff", "1", "62ff=02"),
     (Read, 14, "62ff", "1", ""),
     (Requests, 0, "", "", "4"),
-    // Who read before the first version met nothing newer there, and conflicts with what was written since.
+    // Who read before the first version met nothing newer there, and conflicts with what was
+    // written since.
     (Over, 10, PAIRS, "2 3", "2 2 2"),
     (Commit, 8, "61 62ff", "61=05", "committed 11"),
     (Commit, 10, "62-64", "63=05", "committed 12"),

@@ -14,8 +14,8 @@ pub(crate) enum Step {
     Resolvers,
     Servers,
     Both,
-    /// Begins anew over the pairs of the first text, at the version of the number, with the second text's logs and
-    /// window, and resolvers and servers that meet at the key 62.
+    /// Begins anew over the pairs of the first text, at the version of the number, with the second
+    /// text's logs and window, and resolvers and servers that meet at the key 62.
     Over,
     /// Submits a request that read at the version the ranges of the first text, and writes the second.
     Submit,
