@@ -1,5 +1,8 @@
 // A database whose commits are kept in a file, and transactions written as the steps of scripts.
 // Called by all tests here.
+ghost use Rattle.std.specs.Prelude.{◌≡◌};
+ghost use Rattle.runtime.specs.Runs.{Continues};
+
 use cluster_core::Config;
 use commit_log::{DeviceLog, begin_log};
 use journal::Fuse;
@@ -49,6 +52,39 @@ fn commands_in(alloc: Global, steps: &str) -> Option<Vec<Command>> {
     Some(commands)
 }
 
+/// Performs a command, which may be refused.
+fn perform_one<E: End>(tx: &mut Txn<'_, E>, command: &Command)
+    ensures same_reference { tx.new.client.ghost_name ≡ tx.old.client.ghost_name }
+    ensures continues { Continues tx.old.client.now tx.new.client.now }
+{
+    let answer = tx.call(command);
+    drop(answer);
+}
+
+/// Performs commands.
+fn perform_each<E: End>(tx: &mut Txn<'_, E>, commands: &[Command])
+    ensures same_reference { tx.new.client.ghost_name ≡ tx.old.client.ghost_name }
+    ensures continues { Continues tx.old.client.now tx.new.client.now }
+{
+    for command in commands {
+        perform_one(tx, command);
+    }
+}
+
+/// Performs the commands of these steps, where they are some.
+fn performed<E: End>(alloc: Global, tx: &mut Txn<'_, E>, steps: &str) -> bool
+    ensures same_reference { tx.new.client.ghost_name ≡ tx.old.client.ghost_name }
+    ensures continues { Continues tx.old.client.now tx.new.client.now }
+{
+    match commands_in(alloc, steps) {
+        Some(commands) => {
+            perform_each(tx, commands.as_slice());
+            true
+        }
+        None => false,
+    }
+}
+
 /// Performs the commands of these steps, of which some may be refused, and commits.
 pub(crate) fn committed<E: End, R: Wait>(
     rt: &R,
@@ -57,11 +93,9 @@ pub(crate) fn committed<E: End, R: Wait>(
     steps: &str,
 ) -> Option<Result<Done, CommitError>> {
     let mut tx = tx;
-    for command in &commands_in(alloc, steps)? {
-        let answer = tx.call(command);
-        drop(answer);
-    }
-    Some(tx.commit(rt))
+    let is_done = performed(alloc, &mut tx, steps);
+    let answer = tx.commit(rt);
+    if is_done { Some(answer) } else { None }
 }
 
 /// What a commit is told, in words.
