@@ -49,6 +49,8 @@ def main():
             spans, is_proved = spans_of(home, name)
         failed = failed or not is_proved
         print(f"{name}: {'' if is_proved else 'NOT '}proved in {time.monotonic() - begun:.0f} s", flush=True)
+        if not spans:
+            continue
         first, *others = spans.items()
         print(f"  {first[1]:5.1f} until the first one, {first[0]}", flush=True)
         for function, span in sorted(others, key=lambda it: -it[1])[:MOST]:

@@ -43,7 +43,8 @@ def stamp_libraries(home):
 def proof_from_nothing(home, name):
     """The words that prove a crate of a repository by one job, over its built libraries, with nothing that was kept.
 
-    A line is printed as the prover ends with each function.
+    A line is printed as the prover ends with each function. Of a crate with tests they are proved too.
     """
     crate = next(it for it in rtlib().crates_below(home) if it.name == name)
-    return [rtlib().RATTLE, "check", *crate.words(["--jobs", "1"], keeps=False), "--progress"]
+    words = crate.words(["--jobs", "1"], tests=crate.has_tests(), keeps=False)
+    return [rtlib().RATTLE, "check", *words, "--progress"]

@@ -141,6 +141,20 @@ grows_once (steps.Commit client) (answers.Corrupt key) past = omega arith
 grows_once (steps.Commit client) answers.Stopped past = omega arith
 grows_once (steps.Commit client) (answers.Submitted v) past = let n : length (submitted_in past ++ submission client v (open_of client past)) ≡ length (submitted_in past) + length (submission client v (open_of client past)) = length-append (submitted_in past) (submission client v (open_of client past)) in omega (arith, n)
 
+-- the next request is that of the whole schedule
+pub next_request : (R : List CommitRequest) (p : PipelineState) (past : Past) → IsEven R p past → length (submitted_in past) < length R → (request : CommitRequest) × (with_next R p ≡ submit request p)
+next_request R p past even within = (
+  request,
+  ap (λ (rs : List CommitRequest). record p { requests = rs })
+      (ap (λ n. take (n + 1) R) (full_requests R p past even (omega (arith, within))) ∙ take_more R (length (submitted_in past)) some within ∙ ap (λ rs. rs ++ request ∷ []) (sym even.requests)),
+)
+  where
+    some : CommitRequest
+    some = (slice_some R (length (submitted_in past)) within).0
+
+    request : CommitRequest
+    request = get_or R (length (submitted_in past)) some
+
 pub even_submitted : (R : List CommitRequest) (p : PipelineState) (past longer : Past) (new : Submission) → submitted_in longer ≡ submitted_in past ++ new ∷ [] → waiting_in longer ≡ waiting_in past ++ new ∷ [] → logged_in longer ≡ logged_in past → new.version ≡ submitted p + 1 →
     length (submitted_in past ++ new ∷ []) ≤ length R → IsEven R p past → IsEven R (with_next R p) longer
 even_submitted R p past longer new subs_now waits_now logs_now at room even = record {
@@ -180,13 +194,11 @@ even_submitted R p past longer new subs_now waits_now logs_now at room even = re
     inside : k ≤ length subs
     inside = omega (arith, given)
 
-    some : CommitRequest
-    some = (slice_some R (length subs) within).0
+    next : (request : CommitRequest) × (with_next R p ≡ submit request p)
+    next = next_request R p past even within
 
     request : CommitRequest
-    request = get_or R (length subs) some
+    request = next.0
 
     grown : with_next R p ≡ submit request p
-    grown =
-        ap (λ (rs : List CommitRequest). record p { requests = rs })
-        (ap (λ n. take (n + 1) R) full ∙ take_more R (length subs) some within ∙ ap (λ rs. rs ++ request ∷ []) (sym even.requests))
+    grown = next.1

@@ -4,9 +4,12 @@ pub mod Longer
 pub mod Losing
 pub mod Logs
 pub mod Whys
-pub mod Repeats
 pub mod Stepping
 pub mod Versions
 pub mod Even
 pub mod Listed
 pub mod Rising
+pub mod Looking
+pub mod Limits
+pub mod Fitting
+pub mod Lawful

@@ -13,7 +13,7 @@ use Rattle.journal.proofs.Moments.{weaker}
 use Rattle.replay.specs.Replaying.{AreWrittenAs, log_bytes}
 use Rattle.replay.proofs.Replays.{written_append}
 use Rattle.durable.specs.Keeping.{HasLogOf, HasOnDisk, no_base}
-use Rattle.logged_schedule.specs.Keeping.{HasAllOrNone, SayTheSame}
+use Rattle.logged_schedule.specs.Keeping.{HasAllOrNone}
 
 -- ---- logs
 
@@ -55,17 +55,3 @@ module _ {D : Type 0} (seen : D → List ℕ) (may_leave : D → List ℕ → Ty
   pub appended_batch : (entries others : List Entry) (batch : List (List ℕ)) (old new : D) → HasOnDisk seen may_leave no_base entries old → AreWrittenAs batch others →
       StandsFor (seen new) (entries_read (seen old) ++ batch) → Only (seen new) (may_leave new) → HasOnDisk seen may_leave no_base (entries ++ others) new
   appended_batch entries others batch old new disk is stands durable = record { file = log_more (seen old) (seen new) entries others batch disk.file is stands; durable = durable }
-
--- ---- what entries say
-
-pub says_itself : (entries : List Entry) → SayTheSame entries entries
-says_itself [] = tt
-says_itself (entry ∷ entries) = (refl, refl, refl, says_itself entries)
-
-pub says_both : (some others entries more : List Entry) → SayTheSame some entries → SayTheSame others more → SayTheSame (some ++ others) (entries ++ more)
-says_both [] others [] more first last = last
-says_both [] others (entry ∷ entries) more first last = absurd first
-says_both (one ∷ some) others [] more first last = absurd first
-says_both (one ∷ some) others (entry ∷ entries) more first last =
-    let (client, store, changes, rest) = first in
-    (client, store, changes, says_both some others entries more rest last)

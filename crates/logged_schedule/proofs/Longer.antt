@@ -13,11 +13,11 @@ use Rattle.schedule.specs.declared.step.TheConstants.{CLIENTS}
 use Rattle.schedule.specs.Contract.{EachReply, past_of}
 use Rattle.schedule.specs.Exact.{IsReplyTo}
 use Rattle.schedule.specs.Past.{Past}
-use Rattle.schedule.specs.Standing.{cluster_after}
-use Rattle.schedule.specs.Stepwise.{HasDone, StepwiseState}
+use Rattle.schedule.specs.Standing.{cluster_from}
+use Rattle.schedule.specs.Stepwise.{HasDoneFrom, StepwiseState}
 use Rattle.schedule.proofs.Growing.{past_of_append}
 use Rattle.logged_schedule.specs.Following.{SubmitsOfClients}
-use Rattle.logged_schedule.specs.Runs.{LosesNone, Run, done_as, past_in, with_step}
+use Rattle.logged_schedule.specs.Runs.{LosesNone, Run, done_as, first_in, past_in, with_step}
 
 -- the last reply is right, and so are those before it
 pub each_reply_last : (R S : Past → Step → Reply → Type 0) (past : Past) (steps : List Step) (replies : List Reply) (step : Step) (reply : Reply) →
@@ -29,9 +29,9 @@ each_reply_last R S past (first ∷ steps) (one ∷ replies) step reply before e
     let rest = each_reply_last R S ((first, one) ∷ past) steps replies step reply before.1 each.1 in
     ((each.0, rest.0), rest.1)
 
-pub longer_past : (run : Run) (step : Step) (reply : Reply) (state : StepwiseState) → HasDone run.config run.steps run.replies state → past_in (with_step run step reply) ≡ (step, reply) ∷ past_in run
+pub longer_past : (run : Run) (step : Step) (reply : Reply) (state : StepwiseState) → HasDoneFrom (first_in run) run.steps run.replies state → past_in (with_step run step reply) ≡ (step, reply) ∷ past_in run
 longer_past run step reply state done =
-    past_of_append (λ past one answer. IsReplyTo (cluster_after run.config (state.database.cluster.pipeline.requests ++ []) past) past one answer) [] run.steps run.replies step reply (done.0.right [])
+    past_of_append (λ past one answer. IsReplyTo (cluster_from (first_in run) (state.database.cluster.pipeline.requests ++ []) past) past one answer) [] run.steps run.replies step reply (done.0.right [])
 
 -- a commit that is submitted is one of a client that there is
 submits_one : (c : ClusterState) (past : Past) (client version : ℕ) → IsReplyTo c past (Commit client) (Submitted version) → client < CLIENTS
@@ -41,14 +41,14 @@ submits_one c past client version right = by_test (nat_lt client CLIENTS) refl
     by_test true is = ltb-true client CLIENTS is
     by_test false is = absurd (let no : Submitted version ≡ Refused NoSuchClient = right.1 is in cc)
 
-pub submits : (run : Run) (step : Step) (reply : Reply) (before after : StepwiseState) → HasDone run.config run.steps run.replies before → HasDone run.config (run.steps ++ step ∷ []) (run.replies ++ reply ∷ []) after → SubmitsOfClients step reply
+pub submits : (run : Run) (step : Step) (reply : Reply) (before after : StepwiseState) → HasDoneFrom (first_in run) run.steps run.replies before → HasDoneFrom (first_in run) (run.steps ++ step ∷ []) (run.replies ++ reply ∷ []) after → SubmitsOfClients step reply
 submits run step reply before after done longer client version is_step is_reply =
     let requests = after.database.cluster.pipeline.requests ++ [] in
-    let R : Past → Step → Reply → Type 0 = λ past one answer. IsReplyTo (cluster_after run.config requests past) past one answer in
-    let S : Past → Step → Reply → Type 0 = λ past one answer. IsReplyTo (cluster_after run.config (before.database.cluster.pipeline.requests ++ []) past) past one answer in
+    let R : Past → Step → Reply → Type 0 = λ past one answer. IsReplyTo (cluster_from (first_in run) requests past) past one answer in
+    let S : Past → Step → Reply → Type 0 = λ past one answer. IsReplyTo (cluster_from (first_in run) (before.database.cluster.pipeline.requests ++ []) past) past one answer in
     let right = (each_reply_last R S [] run.steps run.replies step reply (done.0.right []) (longer.0.right [])).1 in
-    submits_one (cluster_after run.config requests (past_in run)) (past_in run) client version
-    (subst (λ answer. IsReplyTo (cluster_after run.config requests (past_in run)) (past_in run) (Commit client) answer) is_reply (subst (λ one. IsReplyTo (cluster_after run.config requests (past_in run)) (past_in run) one reply) is_step right))
+    submits_one (cluster_from (first_in run) requests (past_in run)) (past_in run) client version
+    (subst (λ answer. IsReplyTo (cluster_from (first_in run) requests (past_in run)) (past_in run) (Commit client) answer) is_reply (subst (λ one. IsReplyTo (cluster_from (first_in run) requests (past_in run)) (past_in run) one reply) is_step right))
 
 done_twice : (step : Step) → done_as (done_as step) ≡ done_as step
 done_twice (steps.Begin client store) = refl

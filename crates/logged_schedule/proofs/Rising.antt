@@ -1,15 +1,16 @@
 -- The versions of what is logged rise, over plain values.
-use Rattle.std.proofs.Common.{◌≡◌, ◌∙◌, ◌⊎◌, nat_lt, ℕ, suc, ◌+◌, ◌-◌, ◌<◌, ◌≤◌, Bool, true, false, cond, List, [], ◌∷◌, ◌++◌, length, take, drop, max, inl, inr, ap, refl, sym, subst, append-nil, arith}
-use Rattle.std.specs.Prelude.{map}
-use Rattle.std.specs.List.{filter}
+use Rattle.std.proofs.Common.{◌≡◌, ◌∙◌, ◌⊎◌, nat_lt, ℕ, ◌+◌, ◌-◌, ◌<◌, ◌≤◌, Bool, true, false, cond, List, [], ◌∷◌, ◌++◌, length, drop, max, inl, inr, ap, refl, sym, subst, subst₂, append-nil, arith}
+use Rattle.std.specs.Prelude.{IfOk, Result, Ok, Err, map}
 use Rattle.std.proofs.lemmas.Bool.{ltb-true, ltb-false}
-use Rattle.std.proofs.lemmas.List.{length-append, length-map}
+use Rattle.std.proofs.lemmas.List.{length-append}
 use Rattle.kv_core.specs.declared.change.CommitRequest.{CommitRequest}
 use Rattle.cluster_core.specs.declared.answers.Config.{Config}
 use Rattle.cluster_core.specs.Cluster.{ClusterState, pull, with_pipeline}
 use Rattle.cluster_core.specs.Roles.{PipelineState, append, report, resolve}
 use Rattle.command_log.specs.declared.entry.Entry.{Entry}
-use Rattle.replay.specs.Logged.{last_version}
+use Rattle.replay.specs.Logged.{ComeInOrder, IsLawfulLog, last_version, log_database}
+use Rattle.replay.specs.Replaying.{AreWrittenAs, Image, IsReplay}
+use Rattle.replay.proofs.Stores.{holds_nothing}
 use Rattle.schedule.specs.declared.reply.Reply.{Reply}
 use Rattle.schedule.specs.declared.reply.Reply.TheVariants as answers
 use Rattle.schedule.specs.declared.reply.Report.{Report}
@@ -17,17 +18,22 @@ use Rattle.schedule.specs.declared.reply.Report.TheVariants.{Committed, Conflict
 use Rattle.schedule.specs.declared.step.Step.{Step}
 use Rattle.schedule.specs.declared.step.Step.TheVariants as steps
 use Rattle.schedule.specs.Contract.{past_of}
+use Rattle.schedule.specs.Holds.{HoldsAll}
 use Rattle.schedule.specs.Past.{Past, Submission, open_of, submission, submitted_after, submitted_in}
-use Rattle.schedule.specs.Standing.{cluster_after, is_done, is_reported, is_submitted, with_next}
-use Rattle.schedule.specs.Stepwise.{HasDone, StepwiseState}
+use Rattle.schedule.specs.Standing.{cluster_from, is_done, is_reported, is_submitted, with_next}
+use Rattle.schedule.specs.Stepwise.{HasDoneFrom, StepwiseState}
 use Rattle.schedule.proofs.Submitting.{AreVersioned}
-use Rattle.logged_schedule.specs.Entries.{logged_as, logged_in, newly_logged, reports_in, told_first, waiting_in}
-use Rattle.logged_schedule.specs.Keeping.{SayTheSame, VersionsRise}
-use Rattle.logged_schedule.specs.Runs.{LosesNone, Run, past_in}
-use Rattle.logged_schedule.proofs.Even.{IsEven, drop_length, take_short}
+use Rattle.logged_schedule.specs.Entries.{logged_as, newly_logged, reports_in, told_first, waiting_in}
+use Rattle.logged_schedule.specs.declared.error.OpenError.{OpenError}
+use Rattle.logged_schedule.specs.declared.followed.Followed.{Followed}
+use Rattle.logged_schedule.specs.Keeping.{VersionsRise}
+use Rattle.logged_schedule.specs.Opening.{IsBegunAgain, from_version}
+use Rattle.logged_schedule.specs.Runs.{IsHeldLog, LosesNone, Run, first_in, past_in}
+use Rattle.logged_schedule.specs.Standing.{BeginsFollowed}
+use Rattle.logged_schedule.proofs.Even.{IsEven, drop_length}
 use Rattle.logged_schedule.proofs.Listed.{even_done}
 use Rattle.logged_schedule.proofs.Longer.{longer_past}
-use Rattle.logged_schedule.proofs.Versions.{told_so, versions_left}
+use Rattle.logged_schedule.proofs.Versions.{versions_left}
 
 -- ---- versions that rise
 
@@ -75,24 +81,24 @@ start_cond : (b : Bool) (next c : ClusterState) → next.pipeline.start ≡ c.pi
 start_cond true next c same = same
 start_cond false next c same = refl
 
-start_is : (config : Config) (R : List CommitRequest) (past : Past) → (cluster_after config R past).pipeline.start ≡ config.start
-start_is config R [] = refl
-start_is config R ((steps.Begin client store, reply) ∷ past) = start_is config R past
-start_is config R ((steps.Perform client command, reply) ∷ past) = start_is config R past
-start_is config R ((steps.Execute client, reply) ∷ past) = start_is config R past
-start_is config R ((steps.Abandon client, reply) ∷ past) = start_is config R past
-start_is config R ((steps.Settle, reply) ∷ past) = start_is config R past
-start_is config R ((steps.Commit client, reply) ∷ past) = let c = cluster_after config R past in start_cond (is_submitted reply) (with_pipeline (with_next R c.pipeline) c) c refl ∙ start_is config R past
-start_is config R ((steps.Resolve r, reply) ∷ past) = let c = cluster_after config R past in start_cond (is_done reply) (with_pipeline (resolve r c.pipeline) c) c refl ∙ start_is config R past
-start_is config R ((steps.Log l, reply) ∷ past) = let c = cluster_after config R past in start_cond (is_done reply) (with_pipeline (append l c.pipeline) c) c refl ∙ start_is config R past
-start_is config R ((steps.Pull s, reply) ∷ past) = let c = cluster_after config R past in start_cond (is_done reply) (pull s c) c refl ∙ start_is config R past
-start_is config R ((steps.Report, reply) ∷ past) = let c = cluster_after config R past in start_cond (is_reported reply) (with_pipeline (report c.pipeline) c) c refl ∙ start_is config R past
-start_is config R ((steps.Lost, reply) ∷ past) = let c = cluster_after config R past in start_cond (is_reported reply) (with_pipeline (report c.pipeline) c) c refl ∙ start_is config R past
+start_is : (first : ClusterState) (R : List CommitRequest) (past : Past) → (cluster_from first R past).pipeline.start ≡ first.pipeline.start
+start_is first R [] = refl
+start_is first R ((steps.Begin client store, reply) ∷ past) = start_is first R past
+start_is first R ((steps.Perform client command, reply) ∷ past) = start_is first R past
+start_is first R ((steps.Execute client, reply) ∷ past) = start_is first R past
+start_is first R ((steps.Abandon client, reply) ∷ past) = start_is first R past
+start_is first R ((steps.Settle, reply) ∷ past) = start_is first R past
+start_is first R ((steps.Commit client, reply) ∷ past) = let c = cluster_from first R past in start_cond (is_submitted reply) (with_pipeline (with_next R c.pipeline) c) c refl ∙ start_is first R past
+start_is first R ((steps.Resolve r, reply) ∷ past) = let c = cluster_from first R past in start_cond (is_done reply) (with_pipeline (resolve r c.pipeline) c) c refl ∙ start_is first R past
+start_is first R ((steps.Log l, reply) ∷ past) = let c = cluster_from first R past in start_cond (is_done reply) (with_pipeline (append l c.pipeline) c) c refl ∙ start_is first R past
+start_is first R ((steps.Pull s, reply) ∷ past) = let c = cluster_from first R past in start_cond (is_done reply) (pull s c) c refl ∙ start_is first R past
+start_is first R ((steps.Report, reply) ∷ past) = let c = cluster_from first R past in start_cond (is_reported reply) (with_pipeline (report c.pipeline) c) c refl ∙ start_is first R past
+start_is first R ((steps.Lost, reply) ∷ past) = let c = cluster_from first R past in start_cond (is_reported reply) (with_pipeline (report c.pipeline) c) c refl ∙ start_is first R past
 
-state_start : (config : Config) (done : List Step) (replies : List Reply) (state : StepwiseState) → HasDone config done replies state → state.database.cluster.pipeline.start ≡ config.start
-state_start config done replies state has =
+pub state_start : (first : ClusterState) (done : List Step) (replies : List Reply) (state : StepwiseState) → HasDoneFrom first done replies state → state.database.cluster.pipeline.start ≡ first.pipeline.start
+state_start first done replies state has =
     let R : List CommitRequest = state.database.cluster.pipeline.requests ++ [] in
-    sym (ap (λ (c : ClusterState). c.pipeline.start) (has.0.cluster [])) ∙ start_is config R (past_of [] done replies)
+    sym (ap (λ (c : ClusterState). c.pipeline.start) (has.0.cluster [])) ∙ start_is first R (past_of [] done replies)
 
 -- what a step submits
 abbrev Adds : Step → Reply → Past → Type 0
@@ -182,7 +188,7 @@ reported_within R S p q past step reply same before after = by_count (nat_lt (le
 
 -- ---- a step
 
-pub rising_step : (run : Run) (step : Step) (reply : Reply) (before after : StepwiseState) → HasDone run.config run.steps run.replies before → HasDone run.config (run.steps ++ step ∷ []) (run.replies ++ reply ∷ []) after → LosesNone run.steps → LosesNone (run.steps ++ step ∷ []) →
+pub rising_step : (run : Run) (step : Step) (reply : Reply) (before after : StepwiseState) → HasDoneFrom (first_in run) run.steps run.replies before → HasDoneFrom (first_in run) (run.steps ++ step ∷ []) (run.replies ++ reply ∷ []) after → LosesNone run.steps → LosesNone (run.steps ++ step ∷ []) →
     (entries : List Entry) → VersionsRise 0 entries → last_version 0 entries ≤ before.database.cluster.pipeline.reported →
     VersionsRise 0 (entries ++ newly_logged (past_in run) step reply) × (last_version 0 (entries ++ newly_logged (past_in run) step reply) ≤ after.database.cluster.pipeline.reported)
 rising_step run step reply before after has has_now none none_now entries rise upto = (
@@ -203,13 +209,13 @@ rising_step run step reply before after has has_now none none_now entries rise u
     more = newly_logged past step reply
 
     even : IsEven (p.requests ++ []) p past
-    even = even_done run.config run.steps run.replies before has none
+    even = even_done (log_database run.before).map run.config run.steps run.replies before has none
 
     even_now : IsEven (q.requests ++ []) q ((step, reply) ∷ past)
-    even_now = subst (IsEven (q.requests ++ []) q) (longer_past run step reply before has) (even_done run.config (run.steps ++ step ∷ []) (run.replies ++ reply ∷ []) after has_now none_now)
+    even_now = subst (IsEven (q.requests ++ []) q) (longer_past run step reply before has) (even_done (log_database run.before).map run.config (run.steps ++ step ∷ []) (run.replies ++ reply ∷ []) after has_now none_now)
 
     same : p.start ≡ q.start
-    same = state_start run.config run.steps run.replies before has ∙ sym (state_start run.config (run.steps ++ step ∷ []) (run.replies ++ reply ∷ []) after has_now)
+    same = state_start (first_in run) run.steps run.replies before has ∙ sym (state_start (first_in run) (run.steps ++ step ∷ []) (run.replies ++ reply ∷ []) after has_now)
 
     from : p.start ≤ p.reported
     from = even.begun
@@ -225,34 +231,46 @@ rising_step run step reply before after has has_now none none_now entries rise u
         (told_rise (last_version 0 entries) p.reported q.reported (reports_in step reply) waiting (subst (λ v. AreVersioned v waiting) here (versions_left p.start (p.reported - p.start) (submitted_in past) even.versions)) upto
         (reported_within (p.requests ++ []) (q.requests ++ []) p q past step reply same even even_now))
 
--- ---- an opening
+-- ---- a log
 
-says_length : (some entries : List Entry) → SayTheSame some entries → length some ≡ length entries
-says_length [] [] says = refl
-says_length [] (entry ∷ entries) says = absurd says
-says_length (one ∷ some) [] says = absurd says
-says_length (one ∷ some) (entry ∷ entries) says = let (client, store, changes, rest) = says in ap suc (says_length some entries rest)
+in_order_rise : (version : ℕ) (entries : List Entry) → ComeInOrder version entries → VersionsRise version entries
+in_order_rise version [] order = tt
+in_order_rise version (entry ∷ entries) (above, lawful, order) = (above, in_order_rise entry.version entries order)
 
-filter_short : {X : Type 0} (test : X → Bool) (xs : List X) → length (filter test xs) ≤ length xs
-filter_short test [] = omega arith
-filter_short test (x ∷ xs) = by_test (filter_short test xs) (test x)
+-- the versions of a lawful log rise
+pub lawful_rise : (entries : List Entry) → IsLawfulLog entries → VersionsRise 0 entries
+lawful_rise entries lawful = in_order_rise 0 entries lawful.in_order
+
+no_less : (version : ℕ) (entries : List Entry) → ComeInOrder version entries → version ≤ last_version version entries
+no_less version [] order = omega arith
+no_less version (entry ∷ entries) (above, lawful, order) = let rest = no_less entry.version entries order in omega (arith, above, rest)
+
+-- one without entries holds no stores
+pub none_held : IsHeldLog []
+none_held = record { lawful = record { in_order = tt; replayable = tt }; holds = holds_nothing }
+
+-- one whose last version is 0 has no entries
+pub none_logged : (entries : List Entry) → IsLawfulLog entries → last_version 0 entries ≡ 0 → entries ≡ []
+none_logged entries lawful zero_last = by_entries entries lawful.in_order zero_last
   where
-    by_test : length (filter test xs) ≤ length xs → (b : Bool) → length (cond b (x ∷ filter test xs) (filter test xs)) ≤ suc (length xs)
-    by_test rest true = omega (arith, rest)
-    by_test rest false = omega (arith, rest)
+    by_entries : (es : List Entry) → ComeInOrder 0 es → last_version 0 es ≡ 0 → es ≡ []
+    by_entries [] order is = refl
+    by_entries (entry ∷ es) (above, lawful_one, order) is = let least = no_less entry.version es order in absurd (omega (arith, above, least, is))
 
-pub upto_reported : (config : Config) (first : ℕ) (entries : List Entry) (done : List Step) (replies : List Reply) (state : StepwiseState) → HasDone config done replies state → LosesNone done → SayTheSame (logged_in (past_of [] done replies)) entries →
-    config.start ≡ max first (last_version 0 entries - length entries) → last_version 0 entries ≤ state.database.cluster.pipeline.reported
-upto_reported config first entries done replies state has none says is =
-    let p = state.database.cluster.pipeline in
-    let past : Past = past_of [] done replies in
-    let even = even_done config done replies state has none in
-    let k = p.reported - p.start in
-    let kept = take k (submitted_in past) in
-    let count : length (logged_in past) ≡ length (filter (told_so p) kept) = ap length even.logs ∙ length-map (filter (told_so p) kept) logged_as in
-    let fewer : length (filter (told_so p) kept) ≤ length kept = filter_short (told_so p) kept in
-    let short : length kept ≤ k = take_short k (submitted_in past) in
-    let same : length (logged_in past) ≡ length entries = says_length (logged_in past) entries says in
-    let from : p.start ≤ p.reported = even.begun in
-    let begun : p.start ≡ config.start = state_start config done replies state has in
-    omega (arith, count, fewer, short, same, from, begun, is)
+-- ---- what begins over a log
+
+-- a schedule over an empty database begins over a log that comes to version 0
+pub begun_on_none : (config : Config) (log bytes : List (List ℕ)) (image : Image) (last start : ℕ) (result : Result Followed OpenError) → IsReplay log image → log ≡ bytes → last ≡ image.version → last ≡ 0 → start ≡ max config.start last →
+    IfOk result (BeginsFollowed [] (from_version start config)) → IfOk result (IsBegunAgain config bytes)
+begun_on_none config log bytes image last start (Err error) replayed same is_last zero_last is_start begun = tt
+begun_on_none config log bytes image last start (Ok followed) replayed same is_last zero_last is_start begun =
+    let entries = replayed.entries in
+    let logged = replayed.logged in
+    let ends : last ≡ last_version 0 entries = is_last ∙ logged.version in
+    let none : entries ≡ [] = none_logged entries logged.lawful (sym ends ∙ zero_last) in
+    record {
+      entries = entries;
+      written = subst (λ l. AreWrittenAs l entries) same replayed.written;
+      over = record { lawful = logged.lawful; holds = subst (λ m. HoldsAll m (log_database entries).stores) logged.map logged.holds };
+      follows = subst₂ (λ es first. BeginsFollowed es (from_version first config) followed) (sym none) (is_start ∙ ap (max config.start) ends) begun;
+    }

@@ -1,6 +1,7 @@
 -- Steps that are followed, logged and answered, over plain values.
-use Rattle.std.proofs.Common.{◌≡◌, ℕ, ◌+◌, ◌^◌, ◌≤◌, List, ◌++◌, length, ap, refl, sym, subst}
+use Rattle.std.proofs.Common.{◌≡◌, ℕ, ◌+◌, ◌^◌, ◌≤◌, ◌∙◌, List, [], ◌++◌, length, ap, sym, subst, append-nil, append_assoc, arith}
 use Rattle.std.specs.Prelude.{Result, Err, IsErrOf}
+use Rattle.cluster_core.specs.Configuration.{first_cluster_over}
 use Rattle.cluster_core.specs.declared.answers.Config.{Config}
 use Rattle.command_log.specs.declared.entry.Entry.{Entry}
 use Rattle.journal.specs.declared.device.Device.{Ghosts}
@@ -11,10 +12,9 @@ use Rattle.journal.specs.Block.{StandsFor}
 use Rattle.journal.specs.Device.{LeavesOnly, Only}
 use Rattle.journal.specs.Form.{blocks}
 use Rattle.journal.specs.Journal.{IsBeforeOrAfter, entries_read}
-use Rattle.replay.specs.Logged.{last_version}
+use Rattle.replay.specs.Logged.{last_version, log_database}
 use Rattle.replay.specs.Replaying.{AreWrittenAs, log_bytes}
 use Rattle.durable.specs.Keeping.{HasOnDisk, no_base}
-use Rattle.cluster_core.specs.Configuration.{first_cluster}
 use Rattle.schedule.specs.declared.step.Step.{Step}
 use Rattle.schedule.specs.Past.{Past}
 use Rattle.schedule.specs.Stepwise.{DoesNext}
@@ -26,21 +26,21 @@ use Rattle.logged_schedule.specs.Answers.{IsStepAnswer}
 use Rattle.logged_schedule.specs.Entries.{logged_in, newly_logged}
 use Rattle.logged_schedule.specs.Followed.{DoesFollow, IsFollowed}
 use Rattle.logged_schedule.specs.Following.{SubmitsOfClients}
-use Rattle.logged_schedule.specs.Keeping.{IsWithoutRoom, IsKeptStep, IsWithoutAnswer, KeepsRun, MayHaveLogged, SayTheSame}
-use Rattle.logged_schedule.specs.Opening.{IsOpenedAgain, IsPerformedAgain, from_version, run_again, start_before}
-use Rattle.logged_schedule.specs.Runs.{Run, done_as, past_in, told_as, with_step}
-use Rattle.logged_schedule.specs.Standing.{HasFollowed, StepsFollowed, device_with_log, schedule_of}
+use Rattle.logged_schedule.specs.Keeping.{IsWithoutRoom, IsKeptStep, IsWithoutAnswer, KeepsRun, MayHaveLogged}
+use Rattle.logged_schedule.specs.Opening.{IsBegunAgain, IsOpenedAgain, config_after}
+use Rattle.logged_schedule.specs.Runs.{Run, done_as, first_in, past_in, told_as, with_step}
+use Rattle.logged_schedule.specs.Standing.{HasFollowed, StepsFollowed, device_with_log, run_over, schedule_of}
 use Rattle.logged_schedule.specs.Told.{stopped_by}
 use Rattle.logged_schedule.proofs.Longer.{longer_past, loses_none, submits}
-use Rattle.logged_schedule.proofs.Rising.{rising_step, upto_reported}
-use Rattle.logged_schedule.proofs.Logs.{appended_batch, leaves_batch, says_both, says_itself, written_bytes}
+use Rattle.logged_schedule.proofs.Rising.{lawful_rise, rising_step, state_start}
+use Rattle.logged_schedule.proofs.Logs.{appended_batch, leaves_batch, written_bytes}
 
 -- ---- a step that is followed
 
 pub steps_followed : (step : Step) (before : Followed) (stepped : Stepped) → DoesNext (done_as step) stepped.reply before.schedule stepped.followed.schedule →
     ((past : Past) → IsFollowed past before.following → SubmitsOfClients (done_as step) stepped.reply → DoesFollow past (done_as step) stepped.reply stepped.told.items stepped.followed.following) → StepsFollowed step before stepped
 steps_followed step before stepped next notes run follows =
-    let after = next (first_cluster run.config) run.steps run.replies follows.done in
+    let after = next (first_in run) run.steps run.replies follows.done in
     let of = submits run (done_as step) stepped.reply before.schedule stepped.followed.schedule follows.done after in
     let noted = notes (past_in run) follows.follows of in (
       record {
@@ -83,9 +83,11 @@ module _ {D : Type 0} {G : Ghosts D} (seen : D → List ℕ) (may_leave : D → 
         keeps = record {
           done = subst (HasFollowed (with_step run (done_as step) is.reply)) (sym same) (is.follows run keeps.done);
           disk = appended_batch seen may_leave moment left_since entries more (log_bytes answer.batch.items) (device_with_log before) (device_with_log after) keeps.disk written stands durable;
+          over = keeps.over;
+          from = keeps.from;
           says =
-              subst (λ es. SayTheSame es (entries ++ more)) (sym (ap logged_in (longer_past run (done_as step) is.reply (schedule_of before) keeps.done.done)))
-              (says_both (logged_in (past_in run)) more entries more keeps.says (says_itself more));
+              ap (λ es. es ++ more) keeps.says ∙ append_assoc run.before (logged_in (past_in run)) more
+              ∙ ap (λ past. run.before ++ logged_in past) (sym (longer_past run (done_as step) is.reply (schedule_of before) keeps.done.done));
           rise = rising.0;
           upto = subst (λ (f : Followed). last_version 0 (entries ++ more) ≤ f.schedule.database.cluster.pipeline.reported) (sym same) rising.1;
         };
@@ -124,23 +126,24 @@ module _ {D : Type 0} {G : Ghosts D} (seen : D → List ℕ) (may_leave : D → 
   unanswered run entries step answer before device result (appends.Device devices.Failed) at keeps is memory full room leaves = may_have_logged run entries step answer before device keeps is leaves
   unanswered run entries step answer before device result (appends.Device devices.Memory) at keeps is memory full room leaves = may_have_logged run entries step answer before device keeps is leaves
 
-  -- a file that is recovered, and whose entries are performed again
+  -- a file that is recovered, and over whose entries a schedule begins
   pub reopened : (config : Config) (file : List ℕ) (log : List (List ℕ)) (logged : LoggedSchedule D G) (followed : Followed) (device : D) → StandsFor file (entries_read file) → log ≡ entries_read file → StandsFor (seen device) (entries_read file) →
-      Only (seen device) (may_leave device) → IsPerformedAgain config log followed → logged.followed ≡ followed → device_with_log logged ≡ device → IsOpenedAgain seen may_leave config file logged
+      Only (seen device) (may_leave device) → IsBegunAgain config log followed → logged.followed ≡ followed → device_with_log logged ≡ device → IsOpenedAgain seen may_leave config file logged
   reopened config file log logged followed device whole same stands durable again is_followed is_device =
-      let written = subst (λ l. AreWrittenAs l again.entries) same again.written in
+      let entries = again.entries in
+      let written = subst (λ l. AreWrittenAs l entries) same again.written in
+      let start = state_start (first_cluster_over (log_database entries).map (config_after entries config)) [] [] followed.schedule again.follows.done in
+      let begun = again.follows.done.0.stands.begun in
       record {
-        entries = again.entries;
+        entries = entries;
         had = (entries_read file, written, whole);
-        replies = again.replies;
         keeps = record {
-          done = subst (HasFollowed (run_again (from_version (start_before config.start again.entries) config) again.entries again.replies)) (sym is_followed) again.follows;
-          disk = subst (HasOnDisk seen may_leave no_base again.entries) (sym is_device) (record { file = (entries_read file, written, stands); durable = durable });
-          says = again.says;
-          rise = again.rise;
-          upto =
-              subst (λ (f : Followed). last_version 0 again.entries ≤ f.schedule.database.cluster.pipeline.reported) (sym is_followed)
-              (upto_reported (from_version (start_before config.start again.entries) config) config.start again.entries (run_again (from_version (start_before config.start again.entries) config) again.entries again.replies).steps again.replies followed.schedule
-              again.follows.done again.follows.none_lost again.says refl);
+          done = subst (HasFollowed (run_over entries (config_after entries config))) (sym is_followed) again.follows;
+          disk = subst (HasOnDisk seen may_leave no_base entries) (sym is_device) (record { file = (entries_read file, written, stands); durable = durable });
+          over = again.over;
+          from = omega arith;
+          says = sym (append-nil entries);
+          rise = lawful_rise entries again.over.lawful;
+          upto = subst (λ (f : Followed). last_version 0 entries ≤ f.schedule.database.cluster.pipeline.reported) (sym is_followed) (omega (arith, start, begun));
         };
       }

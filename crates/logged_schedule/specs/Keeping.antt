@@ -14,30 +14,24 @@ use Rattle.logged_schedule.specs.declared.error.StepError.{StepError}
 use Rattle.logged_schedule.specs.declared.error.StepError.TheVariants as stops
 use Rattle.logged_schedule.specs.declared.logged.LoggedSchedule.{LoggedSchedule}
 use Rattle.logged_schedule.specs.Entries.{logged_in, newly_logged}
-use Rattle.logged_schedule.specs.Runs.{Run, done_as, past_in, told_as, with_step}
+use Rattle.logged_schedule.specs.Runs.{IsHeldLog, Run, done_as, past_in, told_as, with_step}
 use Rattle.logged_schedule.specs.Standing.{HasFollowed, device_with_log, schedule_of}
-
--- the entries say the same of clients, stores and changes, one by one; versions and numbers aside, since a log that is
--- performed again has its versions one after another
-abbrev pub SayTheSame : List Entry → List Entry → Type 0
-SayTheSame [] [] = ⊤
-SayTheSame (one ∷ others) (entry ∷ entries) =
-    (one.client ≡ entry.client) × (one.store ≡ entry.store) × (one.changes ≡ entry.changes)
-    × SayTheSame others entries
-SayTheSame others entries = ⊥
 
 -- the versions of entries rise, from above this one on
 abbrev pub VersionsRise : ℕ → List Entry → Type 0
 VersionsRise version [] = ⊤
 VersionsRise version (entry ∷ entries) = (version < entry.version) × VersionsRise entry.version entries
 
--- KEEPS: a schedule has done a run; the file has the log of these entries, all of it on the disk, and they say what the
--- run has committed; their versions rise, up to the last one that is reported at most
+-- KEEPS: a schedule has done a run over what a lawful log comes to, whose stores it holds, from its last version on or
+-- from a later one; the file has the log of these entries, all of it on the disk: those of that log, and then just what
+-- the run has committed; their versions rise, up to the last one that is reported at most
 pub record KeepsRun {D : Type 0} {G : Ghosts D} (seen : D → List ℕ) (may_leave : D → List ℕ → Type 0) (run : Run)
     (entries : List Entry) (logged : LoggedSchedule D G) : Type 0 where
   pub done : HasFollowed run logged.followed
   pub disk : HasOnDisk seen may_leave no_base entries (device_with_log logged)
-  pub says : SayTheSame (logged_in (past_in run)) entries
+  pub over : IsHeldLog run.before
+  pub from : last_version 0 run.before ≤ run.config.start
+  pub says : entries ≡ run.before ++ logged_in (past_in run)
   pub rise : VersionsRise 0 entries
   pub upto : last_version 0 entries ≤ (schedule_of logged).database.cluster.pipeline.reported
 

@@ -8,5 +8,4 @@ pub mod Standing
 pub mod Answers
 pub mod Keeping
 pub mod Opening
-pub mod Performing
 pub mod Laws

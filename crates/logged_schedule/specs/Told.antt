@@ -5,6 +5,8 @@ use Rattle.journal.specs.declared.error.AppendError.{AppendError}
 use Rattle.journal.specs.declared.error.AppendError.TheVariants as append
 use Rattle.journal.specs.declared.error.RecoverError.{RecoverError}
 use Rattle.journal.specs.declared.error.RecoverError.TheVariants as recovers
+use Rattle.replay.specs.declared.error.ReplayError.{ReplayError}
+use Rattle.replay.specs.declared.error.ReplayError.TheVariants as replays
 use Rattle.schedule.specs.declared.transcript.ScheduleError.{ScheduleError}
 use Rattle.schedule.specs.declared.transcript.ScheduleError.TheVariants as schedules
 use Rattle.logged_schedule.specs.declared.error.OpenError.{OpenError}
@@ -21,6 +23,11 @@ opening_error (recovers.Refused refusal) = opens.Memory
 abbrev pub schedule_error : ScheduleError → OpenError
 schedule_error schedules.Memory = opens.Memory
 schedule_error (schedules.Config why) = opens.Config why
+
+-- want of memory is told as such
+abbrev pub replay_error : ReplayError → OpenError
+replay_error replays.Memory = opens.Memory
+replay_error why = opens.Unreplayed why
 
 abbrev pub stopped_by : AppendError → StepError
 stopped_by append.Memory = stops.Memory

@@ -2,7 +2,8 @@
 ghost use Rattle.std.specs.Prelude.{◌≡◌};
 ghost use Rattle.logged_schedule.specs.declared.error.OpenError.TheVariants as opens;
 ghost use Rattle.logged_schedule.specs.declared.error.StepError.TheVariants as stops;
-ghost use Rattle.logged_schedule.specs.Told.{opening_error, schedule_error, stopped_by};
+ghost use Rattle.logged_schedule.specs.Told.{opening_error, replay_error};
+ghost use Rattle.logged_schedule.specs.Told.{schedule_error, stopped_by};
 
 use cluster_core::ConfigError;
 use journal::{AppendError, DeviceError, RecoverError};
@@ -26,15 +27,9 @@ pub enum OpenError {
     /// The log is damaged from this byte on. It keeps each of its bytes.
     #[error("the log is damaged from byte {0} on")]
     Damage(usize),
-    /// What is logged isn't what a schedule logs.
+    /// What is logged isn't what a database logs.
     #[error("{0}")]
     Unreplayed(ReplayError),
-    /// The entry at this place is of a client that there isn't.
-    #[error("entry {0} is of no client")]
-    NoSuchClient(usize),
-    /// The entry at this place, performed again, isn't committed with just its changes.
-    #[error("entry {0} isn't committed again")]
-    NotCommitted(usize),
 }
 
 impl From<AllocError> for OpenError {
@@ -64,6 +59,20 @@ impl From<ScheduleError> for OpenError {
         match error {
             ScheduleError::Memory => OpenError::Memory,
             ScheduleError::Config(why) => OpenError::Config(why),
+        }
+    }
+}
+
+impl From<ReplayError> for OpenError {
+    ghost from_gives = { λ error made. made ≡ replay_error error };
+
+    fn from(error: ReplayError) -> OpenError {
+        match error {
+            ReplayError::Memory => OpenError::Memory,
+            ReplayError::NotAnEntry(_, _)
+            | ReplayError::OutOfOrder(_)
+            | ReplayError::NoSuchStore(_)
+            | ReplayError::Refused(_, _) => OpenError::Unreplayed(error),
         }
     }
 }

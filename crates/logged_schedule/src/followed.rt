@@ -1,6 +1,8 @@
 // A schedule, and what is followed beside it. Stepped by `logged` and `again`.
-ghost use Rattle.std.specs.Prelude.{◌≡◌, IfErr, IfOk, IsNone, OnOk, map};
+ghost use Rattle.std.specs.Prelude.{◌≡◌, ◌≤◌, List, [], IfErr, IfOk, IsNone, OnOk, map};
 ghost use Rattle.cluster_core.specs.Configuration.{config_refusal};
+ghost use Rattle.command_log.specs.declared.entry.Entry.{Entry as EntryValue};
+ghost use Rattle.replay.specs.Replaying.{IsLogged};
 ghost use Rattle.schedule.specs.Stepwise.{DoesNext};
 ghost use Rattle.logged_schedule.specs.Refusals.{IsNotBegun};
 ghost use Rattle.logged_schedule.specs.Runs.{done_as, lost, told_as};
@@ -10,6 +12,7 @@ use crate::error::OpenError;
 use crate::following::Following;
 use cluster_core::Config;
 use command_log::Entry;
+use replay::Image;
 use schedule::{Reply, Report, Reports, Schedule, Step};
 use std::alloc::{AllocError, Global};
 
@@ -29,13 +32,32 @@ pub(crate) struct Stepped {
 }
 
 impl Followed {
-    // A schedule of no steps.
+    // A schedule of no steps, over an empty database.
     pub(crate) fn new(alloc: Global, config: &Config) -> Result<Followed, OpenError>
-        ensures begun { IfOk result (BeginsFollowed config.now) }
+        ensures begun { IfOk result (BeginsFollowed [] config.now) }
         ensures allowed { OnOk result (IsNone (config_refusal config.now)) }
         ensures refused { IfErr result (IsNotBegun config.now) }
     {
         let schedule = Schedule::new(alloc, config)?;
+        let following = Following::new(alloc)?;
+        Ok(Followed {
+            schedule,
+            following,
+        })
+    }
+
+    // One over what a lawful log has come to.
+    pub(crate) fn over(alloc: Global, config: &Config, image: Image) -> Result<Followed, OpenError>
+        requires start { 1 ≤ config.now.start }
+        requires logged { (entries : List EntryValue) × IsLogged entries image }
+        ensures begun { IfOk result (λ followed. (entries : List EntryValue)
+            → IsLogged entries image → BeginsFollowed entries config.now followed) }
+        ensures allowed { OnOk result (IsNone (config_refusal config.now)) }
+        ensures refused { IfErr result (IsNotBegun config.now) }
+    {
+        let pairs = image.pairs(alloc)?;
+        drop(image);
+        let schedule = Schedule::over(alloc, config, pairs, true)?;
         let following = Following::new(alloc)?;
         Ok(Followed {
             schedule,

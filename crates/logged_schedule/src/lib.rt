@@ -1,5 +1,5 @@
-//! A schedule whose commits are in a log on a disk before they are told, and performed again as
-//! steps where it is opened.
+//! A schedule whose commits are in a log on a disk before they are told, and performed again where
+//! it is opened.
 #![tactic(auto)]
 
 mod again;
@@ -11,6 +11,6 @@ mod logged;
 mod opening;
 
 pub use error::{OpenError, StepError, Stopped, Unopened};
-pub use laws::{commits_are_logged, entries_tell_of_commits};
+pub use laws::{commits_are_logged, entries_tell_of_commits, logs_go_on};
 pub use logged::LoggedSchedule;
 pub use opening::open;

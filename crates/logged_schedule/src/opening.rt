@@ -7,7 +7,7 @@ ghost use Rattle.logged_schedule.specs.Opening.{IsOpenedAgain};
 ghost use Rattle.logged_schedule.specs.Refusals.{IsNoneOpened};
 ghost use Rattle.logged_schedule.specs.Standing.{device_with_log};
 
-use crate::again::performed_again;
+use crate::again::begun_again;
 use crate::error::{OpenError, Unopened};
 use crate::logged::LoggedSchedule;
 use cluster_core::Config;
@@ -15,21 +15,20 @@ use journal::{Device, Kept, recover};
 use std::alloc::Global;
 
 /// Opens the schedule whose log a device has, which a crash may have left: the log is recovered,
-/// and its entries are performed again as steps of a schedule of this configuration, over an empty
-/// database. A device that has nothing has the log of a new one. The schedule begins at the
-/// configuration's first version, or at a later one, so that it ends at the version of the last
-/// entry, or above it.
+/// its entries are performed again, and a schedule of this configuration begins over what they come
+/// to. A device that has nothing has the log of a new one. The schedule begins at the
+/// configuration's first version, or at that of the last entry, if that is later.
 ///
 /// It is refused with `Config` where the configuration is, with `Failed` where the device fails,
-/// and with `Memory` where memory runs out; with `Damage` where the log is damaged; and where it
-/// isn't what a schedule logs with `Unreplayed`, `NoSuchClient` or `NotCommitted`, at the place of
-/// the first entry that can't be performed again.
+/// and with `Memory` where memory runs out; with `Damage` where the log is damaged; and with
+/// `Unreplayed` where it isn't what a schedule logs, at the place of the first entry that can't be
+/// performed again.
 pub fn open<D: Device>(
     alloc: Global,
     device: D,
     config: Config,
 ) -> Result<LoggedSchedule<D>, Unopened<D>>
-    // The schedule has done steps that commit what the file's entries say, whose log it goes on
+    // The schedule has done nothing yet over what the file's entries come to, whose log it goes on
     // with.
     ensures opened { IfOk result (IsOpenedAgain D.seen D.may_leave config (D.seen device)) }
     ensures allowed { OnOk result (IsNone (config_refusal config)) }
@@ -45,7 +44,7 @@ pub fn open<D: Device>(
 {
     let mut kept = Kept::new(alloc);
     match recover(alloc, device, &mut kept) {
-        Ok(journal) => match performed_again(alloc, config, kept.entries()) {
+        Ok(journal) => match begun_again(alloc, config, kept) {
             Ok(followed) => Ok(LoggedSchedule::of(followed, journal)),
             Err(error) => Err(Unopened {
                 device: journal.into_device(),

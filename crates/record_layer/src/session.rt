@@ -43,9 +43,16 @@ impl Drop for Session<'_> {
 }
 
 impl<'a> Model for Session<'a> {
+    ghost use Rattle.std.specs.Coded.{codes};
+    ghost use Rattle.kv_core.specs.contracts.change.CommitRequest as requests;
+    ghost use Rattle.cluster_core.specs.TierCode.{map_code};
+    ghost use Rattle.record_store.specs.contracts.store.Store as opened;
+    ghost use Rattle.txn.specs.contracts.transaction.Transaction as open_tx;
     ghost use Rattle.record_layer.specs.Sessions.{SessionView};
 
     ghost Value = { SessionView };
+
+    ghost coded = { Prim.hlevel (codes, map_code, requests.the_row.coded, opened.the_row.coded, open_tx.the_row.coded) };
 
     ghost view = { λ s. record { cluster = s.db.now.cluster; store = s.store; tx = s.tx } };
 }

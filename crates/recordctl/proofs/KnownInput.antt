@@ -7,7 +7,7 @@ use Rattle.cluster_core.specs.declared.answers.Config.{Config}
 use Rattle.cluster_core.specs.Configuration.{first_cluster}
 use Rattle.schedule.specs.Stepwise.{HasDone, StepwiseState}
 use Rattle.schedule.specs.declared.step.Step.{Step}
-use Rattle.logged_schedule.specs.Opening.{from_version}
+use Rattle.logged_schedule.proofs.Rising.{none_held}
 use Rattle.shell.specs.Further.{HasDoneNext, IsOfStepsOver}
 use Rattle.recordctl.specs.declared.run.Begun.{Begun}
 use Rattle.recordctl.specs.declared.run.Stopped.{Stopped}
@@ -87,9 +87,9 @@ run_over_begun None begun before (Ok after) is some next = tt
 run_over_begun None begun before (Err why) is some next = tt
 run_over_begun (Some text) begun before (Err why) is some next = tt
 run_over_begun (Some text) begun before (Ok after) is some next =
-    let (start, (steps, replies, done)) = some is.done in
-    let (more, longer) = next (from_version start begun.config) steps replies done in
-    record { config = begun.config; start = start; before = steps; steps = begun.steps.items; replies = replies ++ more; script = is.script; done = longer; allowed = is.allowed }
+    let (start, (steps, replies, (log, held, done))) = some is.done in
+    let (more, longer) = next _ steps replies done in
+    record { config = begun.config; start = start; before = steps; steps = begun.steps.items; replies = replies ++ more; script = is.script; done = (log, held, longer); allowed = is.allowed }
 
 -- a script that is begun can be run
 pub runnable_begun : (known : Option (List ℕ)) (begun : Begun) → IfSome known (λ text. IsBegunOf text begun) → IfSome known IsRunnable
@@ -98,7 +98,7 @@ runnable_begun (Some text) begun is = record { config = begun.config; steps = be
 
 -- an empty database is one of no steps
 pub steps_none : (config : Config) (state : StepwiseState) → HasDone config [] [] state → (start : ℕ) × IsOfStepsOver config start state
-steps_none config state done = (config.start, ([], [], done))
+steps_none config state done = (config.start, ([], [], ([], none_held, done)))
 
 pub explained_of_front : (known : Option (List ℕ)) (bytes : List ℕ) (fault : Fault) → IfSome known (λ text. bytes ≡ take 4000001 text) → explains_run bytes fault → IfSome known (λ text. explains_run text fault)
 explained_of_front None bytes fault h is = tt

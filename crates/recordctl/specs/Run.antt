@@ -7,7 +7,7 @@ use Rattle.schedule.specs.declared.reply.Reply.{Reply}
 use Rattle.schedule.specs.declared.step.Step.{Step}
 use Rattle.script.specs.Script.{IsScript, explains_script}
 use Rattle.script.specs.declared.error.ScriptError.TheVariants as errors
-use Rattle.logged_schedule.specs.Opening.{from_version}
+use Rattle.logged_schedule.specs.Opening.{HasDoneOverLog, from_version}
 use Rattle.logged_schedule.specs.declared.error.StepError.{StepError}
 use Rattle.logged_schedule.specs.declared.error.StepError.TheVariants as unanswered
 use Rattle.recordctl.specs.declared.run.Begun.{Begun}
@@ -56,7 +56,8 @@ pub record IsRunOf (text : List ℕ) (database : StepwiseState) : Type 0 where
   pub done : HasDone config steps replies database
   pub allowed : IsNone (config_refusal config)
 
--- Private: so it is where other steps may have been done before those of the script, from a version on
+-- Private: so it is where other steps may have been done before those of the script, over what a lawful log comes to,
+-- from a version on
 pub record IsRunOver (text : List ℕ) (database : StepwiseState) : Type 0 where
   pub config : Config
   pub start : ℕ
@@ -64,5 +65,5 @@ pub record IsRunOver (text : List ℕ) (database : StepwiseState) : Type 0 where
   pub steps : List Step
   pub replies : List Reply
   pub script : IsScript text config steps
-  pub done : HasDone (from_version start config) (before ++ steps) replies database
+  pub done : HasDoneOverLog (from_version start config) (before ++ steps) replies database
   pub allowed : IsNone (config_refusal config)

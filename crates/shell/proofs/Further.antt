@@ -1,13 +1,16 @@
 -- Schedules after more steps.
 use Rattle.std.proofs.Common.{◌≡◌, ◌∙◌, ℕ, ◌+◌, ◌<◌, List, [], ◌∷◌, ◌++◌, length, get_or, take, ap, sym, subst₂, append-nil, append_assoc}
 use Rattle.std.proofs.lemmas.List.{take_more}
+use Rattle.cluster_core.specs.Cluster.{ClusterState}
 use Rattle.cluster_core.specs.declared.answers.Config.{Config}
-use Rattle.cluster_core.specs.Configuration.{first_cluster}
+use Rattle.journal.specs.declared.device.Device.{Ghosts}
 use Rattle.schedule.specs.declared.step.Step.{Step}
 use Rattle.schedule.specs.declared.reply.Reply.{Reply}
 use Rattle.schedule.specs.Stepwise.{DoesNext, HasDoneFrom, StepwiseState}
-use Rattle.logged_schedule.specs.Opening.{from_version}
-use Rattle.shell.specs.Further.{HasDoneNext, IsAfter, IsFurther, IsOfStepsOver}
+use Rattle.logged_schedule.specs.declared.logged.LoggedSchedule.{LoggedSchedule}
+use Rattle.logged_schedule.specs.Opening.{IsOpenedAgain, start_after}
+use Rattle.logged_schedule.specs.Standing.{schedule_of}
+use Rattle.shell.specs.Further.{HasDoneNext, IsAfter, IsFurther, IsOfStepsFrom, IsOfStepsOver}
 
 -- ---- steps up to a place
 
@@ -51,8 +54,14 @@ pub further_both : (a b c : StepwiseState) → IsFurther a b → IsFurther b c �
 further_both a b c first last start so_far = last start (first start so_far)
 
 -- where some steps were done, and then some more
-pub steps_further : (config : Config) (start : ℕ) (before after : StepwiseState) → IsFurther before after → IsOfStepsOver config start before → IsOfStepsOver config start after
-steps_further config start before after further (steps, replies, done) =
+pub steps_further : (first : ClusterState) (before after : StepwiseState) → IsFurther before after → IsOfStepsFrom first before → IsOfStepsFrom first after
+steps_further first before after further (steps, replies, done) =
     let (more, next) = further before (after_none before) in
-    let (told, longer) = next (first_cluster (from_version start config)) steps replies done in
+    let (told, longer) = next first steps replies done in
     (steps ++ more, replies ++ told, longer)
+
+-- ---- a folder
+
+-- nothing was done yet over what its log comes to
+pub opened_over : {D : Type 0} {G : Ghosts D} (seen : D → List ℕ) (may_leave : D → List ℕ → Type 0) (config : Config) (file : List ℕ) (logged : LoggedSchedule D G) → IsOpenedAgain seen may_leave config file logged → (start : ℕ) × IsOfStepsOver config start (schedule_of logged)
+opened_over seen may_leave config file logged is = (start_after config.start is.entries, ([], [], (is.entries, is.keeps.over, is.keeps.done.done)))

@@ -1,12 +1,11 @@
 -- A schedule after more steps.
 use Rattle.std.specs.Prelude.{ℕ, List, ◌++◌}
 use Rattle.cluster_core.specs.Cluster.{ClusterState}
-use Rattle.cluster_core.specs.Configuration.{single}
 use Rattle.cluster_core.specs.declared.answers.Config.{Config}
 use Rattle.schedule.specs.declared.step.Step.{Step}
 use Rattle.schedule.specs.declared.reply.Reply.{Reply}
-use Rattle.schedule.specs.Stepwise.{HasDone, HasDoneFrom, StepwiseState}
-use Rattle.logged_schedule.specs.Opening.{from_version}
+use Rattle.schedule.specs.Stepwise.{HasDoneFrom, StepwiseState}
+use Rattle.logged_schedule.specs.Opening.{HasDoneOverLog, from_version}
 
 -- whatever steps were done before, these were done after them
 abbrev pub HasDoneNext : List Step → StepwiseState → StepwiseState → Type 0
@@ -22,11 +21,12 @@ IsAfter before after = (steps : List Step) × HasDoneNext steps before after
 abbrev pub IsFurther : StepwiseState → StepwiseState → Type 0
 IsFurther before after = (start : StepwiseState) → IsAfter start before → IsAfter start after
 
--- some steps were done, one after another, over an empty database of a configuration, from this version on
+-- some steps were done, one after another, from where the cluster was this
+abbrev pub IsOfStepsFrom : ClusterState → StepwiseState → Type 0
+IsOfStepsFrom first state = (steps : List Step) × (replies : List Reply) × HasDoneFrom first steps replies state
+
+-- so they were in a database of a configuration over what a lawful log comes to, whose stores it holds, from this
+-- version on
 abbrev pub IsOfStepsOver : Config → ℕ → StepwiseState → Type 0
 IsOfStepsOver config start state =
-    (steps : List Step) × (replies : List Reply) × HasDone (from_version start config) steps replies state
-
--- so it is over one with one role of each kind
-abbrev pub IsOfStepsFrom : ℕ → StepwiseState → Type 0
-IsOfStepsFrom start state = IsOfStepsOver single start state
+    (steps : List Step) × (replies : List Reply) × HasDoneOverLog (from_version start config) steps replies state

@@ -4,10 +4,10 @@ ghost use Rattle.std.specs.Prelude.{◌≡◌, ◌⊎◌, [], Some, IfOk, IfErr,
 ghost use Rattle.cluster_core.specs.Cluster.{forget};
 ghost use Rattle.cluster_core.specs.Configuration.{config_refusal};
 ghost use Rattle.cluster_core.specs.declared.answers.ConfigError.{ConfigError as ConfigRefusal};
-ghost use Rattle.schedule.specs.Exact.{IsExactRun};
-ghost use Rattle.schedule.specs.Headline.{IsHeadline};
-ghost use Rattle.schedule.specs.Right.{IsRightRun};
-ghost use Rattle.schedule.specs.Stepwise.{DoesNext, HasDone, IsSoFar, whole_cluster};
+ghost use Rattle.schedule.specs.Exact.{IsExactOver, IsExactRun};
+ghost use Rattle.schedule.specs.Headline.{IsHeadline, IsHeadlineOver};
+ghost use Rattle.schedule.specs.Right.{IsRightOver, IsRightRun};
+ghost use Rattle.schedule.specs.Stepwise.{DoesNext, HasDone, IsSoFar, IsSoFarOver, whole_cluster};
 
 use cluster_core::{Cluster, Config};
 use journal_file::FileDevice;
@@ -101,14 +101,18 @@ impl Database {
     }
 
     /// The cluster after the steps so far. Whatever steps those were and whatever they replied: the
-    /// transcript of them is one that `run_schedule` may answer, but that of the requests only those
-    /// are kept of which a role or a server may still ask.
+    /// transcript of them is one that `run_schedule` may answer, but that of the requests only
+    /// those are kept of which a role or a server may still ask. Over a log it is so for the stores
+    /// that the log comes to.
     pub fn cluster(&self) -> &Cluster
         ensures now { whole_cluster result.now ≡ self.now.database.cluster }
         ensures forgotten { result.now ≡ forget result.now }
         ensures right { IsSoFar IsRightRun self.now }
         ensures exact { IsSoFar IsExactRun self.now }
         ensures headline { IsSoFar (λ _. IsHeadline) self.now }
+        ensures right_over { IsSoFarOver IsRightOver self.now }
+        ensures exact_over { IsSoFarOver IsExactOver self.now }
+        ensures headline_over { IsSoFarOver (λ _. IsHeadlineOver) self.now }
     {
         match &self.held {
             Held::Passing(schedule) => schedule.cluster(),

@@ -1,5 +1,6 @@
 // The lines of the input, read and done one after another. Called by `recordctl`.
-ghost use Rattle.std.specs.Prelude.{ℕ, IfOk};
+ghost use Rattle.std.specs.Prelude.{IfOk};
+ghost use Rattle.cluster_core.specs.Cluster.{ClusterState};
 ghost use Rattle.shell.specs.Further.{IsFurther, IsOfStepsFrom};
 
 use crate::database::Database;
@@ -339,8 +340,8 @@ pub fn run_shell<H: Files + AllocGlobal, R: Read, W: Write, E: Write>(
     errors: &mut E,
 ) -> Result<Database, ShellError>
     ensures further { IfOk result (IsFurther database) }
-    ensures steps { (start : ℕ) → IsOfStepsFrom start database
-        → IfOk result (IsOfStepsFrom start) }
+    ensures steps { (first : ClusterState) → IsOfStepsFrom first database
+        → IfOk result (IsOfStepsFrom first) }
 {
     let alloc = rt.alloc();
     let mut input = BufReader::new(alloc, input)?;
