@@ -1,12 +1,11 @@
--- What a binary search finds among keys in order.
-use Rattle.std.proofs.Common.{◌≡◌, ℕ, zero, suc, ◌+◌, ◌-◌, ◌<◌, ◌≤◌, Bool, true, false, cond, inl, inr, Ordering, Less, Equal, Greater, List, [], ◌∷◌, length, get_or, Result, Ok, Err, refl, sym, ap, ◌∙◌, subst, arith}
+-- What a search by halves finds among keys in order.
+use Rattle.std.proofs.Common.{◌≡◌, ℕ, zero, suc, ◌-◌, ◌<◌, ◌≤◌, Bool, true, false, cond, inl, inr, Ordering, Less, Equal, Greater, List, [], ◌∷◌, length, get_or, Ok, Err, refl, sym, ap, true≢false, ◌∙◌, subst, arith}
 use Rattle.std.proofs.lemmas.Bool.{cases_lt}
 use Rattle.std.proofs.lemmas.Cmp.{alike_right, nat_list_cmp_total, tied_back}
-use Rattle.std.proofs.lemmas.List.Sorted.{searchable_from_sorted}
 use Rattle.std.proofs.lemmas.Map.Keys.{Less-from_sorted, sorted_head, sorted_tail}
-use Rattle.std.specs.List.Sorted.{IsBinarySearchResult, IsNonDecreasingBy, IsSearchInRange, IsSortedBy, IsStrictlySortedBy}
+use Rattle.std.specs.List.Sorted.{IsStrictlySortedBy}
 use Rattle.std.specs.Map.{keys_of}
-use Rattle.std.specs.Ordering.{is_lt, match_ordering, ordering_index}
+use Rattle.std.specs.Ordering.{is_lt, match_ordering}
 use Rattle.std_collections.specs.Layout.BTreeMap.{one_further, seek}
 use Rattle.kv_core.specs.Bytes.{key_cmp, key_lt}
 use Rattle.block_map.specs.Blocks.{bounds_upto}
@@ -17,13 +16,6 @@ before_tied : (a b c : List ℕ) → key_cmp a b ≡ Less → key_cmp b c ≡ Eq
 before_tied a b c p q = sym (alike_right nat_list_cmp_total b c a q) ∙ p
 
 module _ (key : List ℕ) where
-  rising : (ks : List (List ℕ)) → IsStrictlySortedBy key_cmp ks → IsSortedBy (λ a b. is_lt (key_cmp a b)) ks
-  rising ks sorted k d low high = ap is_lt (Less-turned (get_or ks k d) (get_or ks (k + 1) d) (Less-from_sorted key_cmp ks k (k + 1) d sorted (omega arith) high))
-
-  -- what a search wants of keys in order
-  pub searchable : (ks : List (List ℕ)) → IsStrictlySortedBy key_cmp ks → IsNonDecreasingBy (λ y. ordering_index (key_cmp y key)) ks
-  searchable ks sorted = searchable_from_sorted nat_list_cmp_total (λ k. k) ks key (rising ks sorted)
-
   module _ {X : Type 0} where
     seek_step : (e : List ℕ × X) (es : List (List ℕ × X)) (r : Ordering) → key_cmp key e.0 ≡ r → seek (key_cmp key) (e ∷ es) ≡ match_ordering r (Err 0) (Ok 0) (one_further (seek (key_cmp key) es))
     seek_step e es r h = ap (λ o. match_ordering o (Err 0) (Ok 0) (one_further (seek (key_cmp key) es))) h
@@ -44,13 +36,6 @@ module _ (key : List ℕ) where
         seek_step e es Greater (Less-turned e.0 key (low 0 (omega arith)))
         ∙ ap one_further (seek_gap es at (omega arith) (λ j h. low (suc j) (omega arith)) (λ j h l. high (suc j) (omega arith) (omega arith)))
 
-    -- the place that a binary search among the keys finds is that of a search from the front
-    pub sought : (es : List (List ℕ × X)) (r : Result ℕ ℕ) → IsStrictlySortedBy key_cmp (keys_of es) → IsSearchInRange r (length (keys_of es)) → IsBinarySearchResult (λ y. key_cmp y key) (keys_of es) r → r ≡ seek (key_cmp key) es
-    sought es (Ok at) sorted within found = sym (seek_found es at sorted within (found []))
-    sought es (Err at) sorted within parted =
-        let sides = parted (searchable (keys_of es) sorted) in
-        sym (seek_gap es at within (λ j h. sides.0 j [] (omega arith) h) (λ j h l. sides.1 j [] h l))
-
   upto_step : (k : List ℕ) (ks : List (List ℕ)) (b : Bool) → key_lt key k ≡ b → bounds_upto key (k ∷ ks) ≡ cond b 0 (suc (bounds_upto key ks))
   upto_step k ks b h = ap (λ t. cond t 0 (suc (bounds_upto key ks))) h
 
@@ -60,24 +45,6 @@ module _ (key : List ℕ) where
   upto_gap (k ∷ ks) zero within low high = upto_step k ks true (high (omega arith))
   upto_gap (k ∷ ks) (suc at) within low high =
       upto_step k ks false (low 0 (omega arith)) ∙ ap suc (upto_gap ks at (omega arith) (λ j h. low (suc j) (omega arith)) (λ h. high (omega arith)))
-
-  pub upto_found : (ks : List (List ℕ)) (at : ℕ) → IsStrictlySortedBy key_cmp ks → at < length ks → key_cmp (get_or ks at []) key ≡ Equal → bounds_upto key ks ≡ at + 1
-  upto_found ks at sorted within tied =
-      upto_gap ks (at + 1) (omega arith)
-      (λ j h. elim (cases_lt j at) [
-        | inl before ↦ ap is_lt (Less-turned (get_or ks j []) key (before_tied (get_or ks j []) (get_or ks at []) key (Less-from_sorted key_cmp ks j at [] sorted before within) tied))
-        | inr not ↦ subst (λ i. key_lt key (get_or ks i []) ≡ false) {x = at} (omega arith) (ap is_lt (tied_back nat_list_cmp_total (get_or ks at []) key tied))
-      ])
-      (λ h. ap is_lt (tied_before (get_or ks at []) (get_or ks (at + 1) []) tied (Less-from_sorted key_cmp ks at (at + 1) [] sorted (omega arith) h)))
-    where
-      tied_before : (a b : List ℕ) → key_cmp a key ≡ Equal → key_cmp a b ≡ Less → key_cmp key b ≡ Less
-      tied_before a b p q = sym (nat_list_cmp_total.congr a key b p) ∙ q
-
-  -- the same of bounds
-  pub placed : (ks : List (List ℕ)) (at : ℕ) → IsStrictlySortedBy key_cmp ks → IsBinarySearchResult (λ y. key_cmp y key) ks (Err at) → at ≤ length ks → bounds_upto key ks ≡ at
-  placed ks at sorted parted within =
-      let sides = parted (searchable ks sorted) in
-      upto_gap ks at within (λ j h. ap is_lt (Less-turned (get_or ks j []) key (sides.0 j [] (omega arith) h))) (λ h. ap is_lt (Greater-turned (get_or ks at []) key (sides.1 at [] (omega arith) h)))
 
   -- ---- a place between two neighbours
 
@@ -114,17 +81,6 @@ module _ (key : List ℕ) where
       ])
       before
 
-  -- what a search among a block's keys finds
-  pub sought_in : {X : Type 0} (es : List (List ℕ × X)) (ks : List (List ℕ)) (r : Result ℕ ℕ) → ks ≡ keys_of es → IsStrictlySortedBy key_cmp (keys_of es) → IsSearchInRange r (length ks) → IsBinarySearchResult (λ y. key_cmp y key) ks r → r ≡ seek (key_cmp key) es
-  sought_in es ks r are sorted range found = sought es r sorted (subst (λ l. IsSearchInRange r (length l)) are range) (subst (λ l. IsBinarySearchResult (λ y. key_cmp y key) l r) are found)
-
-  -- what a search among the bounds finds
-  pub bound_found : (ks l : List (List ℕ)) (at : ℕ) → l ≡ ks → IsStrictlySortedBy key_cmp ks → at < length l → ((d : List ℕ) → key_cmp (get_or l at d) key ≡ Equal) → at + 1 ≡ bounds_upto key ks
-  bound_found ks l at is sorted within tied = sym (upto_found ks at sorted (subst (λ x. at < length x) is within) (subst (λ x. key_cmp (get_or x at []) key ≡ Equal) is (tied [])))
-
-  pub bound_gap : (ks l : List (List ℕ)) (at : ℕ) → l ≡ ks → IsStrictlySortedBy key_cmp ks → at ≤ length l → IsBinarySearchResult (λ y. key_cmp y key) l (Err at) → at ≡ bounds_upto key ks
-  bound_gap ks l at is sorted within parted = sym (placed ks at sorted (subst (λ x. IsBinarySearchResult (λ y. key_cmp y key) x (Err at)) is parted) (subst (λ x. at ≤ length x) is within))
-
   -- the same of keys that are read as a slice
   pub gap_in : {X : Type 0} (es : List (List ℕ × X)) (l : List (List ℕ)) (place : ℕ) → l ≡ keys_of es → IsStrictlySortedBy key_cmp (keys_of es) → place ≤ length l → (0 < place → key_lt (get_or l (place - 1) []) key ≡ true) → (place < length l → key_lt key (get_or l place []) ≡ true) → seek (key_cmp key) es ≡ Err place
   gap_in es l place are sorted within before after =
@@ -135,3 +91,18 @@ module _ (key : List ℕ) where
   upto_in ks l block are sorted within from before =
       sym (upto_here ks block sorted (subst (λ x. block ≤ length x) are within)
       (subst (λ x. 0 < block → key_lt key (get_or x (block - 1) []) ≡ false) are from) (subst (λ x. block < length x → key_lt key (get_or x block []) ≡ true) are before))
+
+  -- the key that the place of a search comes behind, where it is that
+  pub found_in : {X : Type 0} (es : List (List ℕ × X)) (l : List (List ℕ)) (place : ℕ) → l ≡ keys_of es → IsStrictlySortedBy key_cmp (keys_of es) → 0 < place → place ≤ length l → key_cmp (get_or l (place - 1) []) key ≡ Equal → seek (key_cmp key) es ≡ Ok (place - 1)
+  found_in es l place are sorted some within tied =
+      seek_found es (place - 1) sorted (subst (λ x. place - 1 < length x) are (omega arith)) (subst (λ x. key_cmp (get_or x (place - 1) []) key ≡ Equal) are tied)
+
+  -- where it is another one
+  pub gap_upto : {X : Type 0} (es : List (List ℕ × X)) (l : List (List ℕ)) (place : ℕ) → l ≡ keys_of es → IsStrictlySortedBy key_cmp (keys_of es) → place ≤ length l → (0 < place → key_lt key (get_or l (place - 1) []) ≡ false) → (0 < place → key_cmp (get_or l (place - 1) []) key ≡ Equal → ⊥) → (place < length l → key_lt key (get_or l place []) ≡ true) → seek (key_cmp key) es ≡ Err place
+  gap_upto es l place are sorted within from apart before =
+      gap_in es l place are sorted within (λ some. apart_below (get_or l (place - 1) []) (key_cmp (get_or l (place - 1) []) key) refl (from some) (apart some)) before
+    where
+      apart_below : (own : List ℕ) (order : Ordering) → key_cmp own key ≡ order → key_lt key own ≡ false → (key_cmp own key ≡ Equal → ⊥) → key_lt own key ≡ true
+      apart_below own Less is from apart = ap is_lt is
+      apart_below own Equal is from apart = absurd (apart is)
+      apart_below own Greater is from apart = absurd (true≢false (sym (ap is_lt (Greater-turned own key is)) ∙ from))

@@ -10,10 +10,11 @@ ghost use Rattle.std_collections.specs.Layout.Columns.{set_value_at};
 ghost use Rattle.kv_core.specs.Bytes.{key_cmp};
 ghost use Rattle.block_map.specs.Blocks.{most};
 
-use crate::near::{comes_after, comes_before};
+use crate::near::{comes_after, comes_before, count_upto};
 use crate::part::Part;
 use kv_core::Bytes;
 use std::alloc::{AllocError, Global};
+use std::cmp::Ordering;
 use std::marker::Model;
 use std::mem;
 
@@ -123,7 +124,15 @@ impl<V> Block<V> {
         requires { IsStrictlySortedBy key_cmp (keys_of self.now) }
         ensures { result ≡ seek (key_cmp key.now) self.now }
     {
-        self.keys.binary_search(key)
+        let keys = self.keys.as_slice();
+        let place = count_upto(keys, key);
+        if place == 0 {
+            return Err(0);
+        }
+        match keys[place - 1].compare(key) {
+            Ordering::Equal => Ok(place - 1),
+            _ => Err(place),
+        }
     }
 
     /// Whether a key comes between the one before a place and the one there.

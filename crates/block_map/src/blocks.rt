@@ -16,7 +16,7 @@ ghost use Rattle.block_map.specs.Blocks.{joined_bounds_before};
 ghost use Rattle.block_map.specs.Blocks.{most, search_place, bounds_upto, without_empty};
 
 use crate::block::{Block, MOST, between, insert_reserved};
-use crate::near::{comes_before, comes_from};
+use crate::near::{comes_before, comes_from, count_upto};
 use crate::part::Part;
 use crate::range::Range;
 use kv_core::Bytes;
@@ -67,10 +67,7 @@ impl<V> Blocks<V> {
         requires { IsWhole self.now.bounds.items self.now.list.items }
         ensures { result ≡ bounds_upto key.now self.now.bounds.items }
     {
-        match self.bounds.binary_search(key) {
-            Ok(at) => at + 1,
-            Err(at) => at,
-        }
+        count_upto(self.bounds.as_slice(), key)
     }
 
     /// The block to which a key belongs, and where the key stands there, or else would stand.

@@ -1,4 +1,4 @@
-// Whether a key comes at a place of a list in order. Used by `block` and `blocks`.
+// Where a key comes in a list in order. Used by `block` and `blocks`.
 ghost use Rattle.std.specs.Prelude.{◌≡◌, ◌≤◌, ◌<◌, ◌-◌, [], true, false, length, slice_index_or};
 ghost use Rattle.std.specs.Prelude.{IsTrue};
 ghost use Rattle.kv_core.specs.Bytes.{key_lt};
@@ -38,4 +38,25 @@ pub(crate) fn comes_from(keys: &[Bytes], place: usize, key: &Bytes) -> bool
         return true;
     }
     !key.is_before(&keys[place - 1])
+}
+
+/// How many keys of a list in order come before another one or are that: a place behind which the
+/// next one comes after it, found by halves.
+pub(crate) fn count_upto(keys: &[Bytes], key: &Bytes) -> usize
+    ensures within { result ≤ length keys.now }
+    ensures from { 0 < result → key_lt key.now (slice_index_or keys.now (result - 1) []) ≡ false }
+    ensures before { result < length keys.now
+        → key_lt key.now (slice_index_or keys.now result []) ≡ true }
+{
+    let mut low = 0;
+    let mut high = keys.len();
+    while low < high {
+        let middle = low + (high - low) / 2;
+        if key.is_before(&keys[middle]) {
+            high = middle;
+        } else {
+            low = middle + 1;
+        }
+    }
+    low
 }

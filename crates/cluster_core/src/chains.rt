@@ -1,5 +1,5 @@
 // The multi-version map of a storage server. Used by `server`.
-ghost use Rattle.std.specs.Prelude.{◌≡◌, ◌∷◌, [], List, ℕ, IfOk, OnOk, OnErr, MatchOption};
+ghost use Rattle.std.specs.Prelude.{◌≡◌, ◌∷◌, ◌++◌, [], List, ℕ, IfOk, OnOk, OnErr, MatchOption};
 ghost use Rattle.std.specs.Prelude.{if◌then◌else◌, false, length};
 ghost use Rattle.std.specs.FinMap.{get};
 ghost use Rattle.std.specs.Map.{keys_of};
@@ -20,6 +20,9 @@ use block_map::{BlockMap, Range};
 use kv_core::{Bytes, KeyRange, Mutation, Pair, add_le, is_operand};
 use std::alloc::{AllocError, Global};
 use std::mem;
+
+/// For how many pairs there is room once a read has found one.
+const FEW_PAIRS: usize = 16;
 
 /// The chains of a server's keys, and the keys that were written at the version to come.
 #[derive(Debug, Drop)]
@@ -87,6 +90,17 @@ fn value_of<'a>(chains: &'a BlockMap<Chain>, version: u64, key: &Bytes) -> Optio
         Some(chain) => chain.value_at(version),
         None => None,
     }
+}
+
+/// Adds a pair behind those of a read. There is room for a few at once, as many as are asked for.
+fn push_pair(pairs: &mut Vec<Pair>, limit: usize, pair: Pair) -> Result<(), AllocError>
+    ensures { OnOk result (pairs.new.items ≡ pairs.old.items ++ pair ∷ []) }
+{
+    if pairs.is_empty() {
+        pairs.reserve(limit.min(FEW_PAIRS))?;
+    }
+    pairs.push(pair)?;
+    Ok(())
 }
 
 /// The sum of the value of a key at a version and an operand.
@@ -282,7 +296,7 @@ impl Chains {
                 break;
             };
             if let Some(value) = chain.value_at(version) {
-                pairs.push((key.copy()?, value.copy()?))?;
+                push_pair(&mut pairs, limit, (key.copy()?, value.copy()?))?;
             }
         }
         Ok(pairs)

@@ -1,32 +1,46 @@
--- Private: what is known of a list of ranges: the keys of its points, and its other ranges.
-use Rattle.std.specs.Prelude.{◌≡◌, ℕ, Option, Some, None, List, [], ◌∷◌, ◌++◌}
-use Rattle.std.specs.List.{list_any}
-use Rattle.std.specs.BTreeSet.{BTreeSet, contains as has}
-use Rattle.kv_core.specs.Bytes.{has_key}
-use Rattle.kv_core.specs.Range.{KeyRange, is_same_range, point, range_cmp}
+-- Private: what is known of a list of ranges: which one is the last of each bucket, and which one of the same bucket
+-- comes before each.
+use Rattle.std.specs.Prelude.{◌≡◌, ℕ, ◌<◌, ◌≤◌, ◌-◌, List, [], ◌∷◌, ◌++◌, length, map, slice_index, bit_and}
+use Rattle.std.specs.Hash.FoldHasher.{initial, write, finish}
+use Rattle.kv_core.specs.Range.{KeyRange}
 use Rattle.kv_core.specs.declared.range_index.RangeIndex.{RangeIndex}
 
--- keys and a set are those of a list of ranges: the keys are just those whose points it has, and the set has just its
--- ranges that aren't points
-pub record IsIndex (points : List (List ℕ)) (known : BTreeSet KeyRange) (ranges : List KeyRange) : Type 0 where
-  pub has_points : (key : List ℕ) → has_key points key ≡ list_any (is_same_range (point key)) ranges
-  pub has_ranges :
-      (range : KeyRange) → (range ≡ point range.begin → ⊥) →
-      has range_cmp known range ≡ list_any (is_same_range range) ranges
+-- the number that std's hasher makes of a range's begin and end
+unfoldable pub range_hash : KeyRange → ℕ
+range_hash range = finish (write (write initial range.begin) range.end)
 
--- what is known of a list of ranges
+-- in which of so many buckets a range stands
+abbrev pub bucket_of : ℕ → KeyRange → ℕ
+bucket_of count range = bit_and (range_hash range) (count - 1)
+
+-- the last of the first so many items that is of this bucket, as its place and 1, or 0 where there is none
+pub record IsLastIn (bucket : ℕ) (buckets : List ℕ) (count last : ℕ) : Type 0 where
+  pub within : last ≤ count
+  pub is_of : 0 < last → slice_index buckets (last - 1) ≡ bucket
+  pub is_last : (place : ℕ) → place < count → slice_index buckets place ≡ bucket → place < last
+
+-- which item is the last of each bucket, and which one of its bucket comes before each, where the items are of these
+pub record IsChained (last before buckets : List ℕ) : Type 0 where
+  pub as_long : length before ≡ length buckets
+  pub of_each : (bucket : ℕ) → bucket < length last → IsLastIn bucket buckets (length buckets) (slice_index last bucket)
+  pub before_each :
+      (place : ℕ) → place < length buckets →
+      IsLastIn (slice_index buckets place) buckets place (slice_index before place)
+
+-- what is known of a list of ranges, where there are buckets
+abbrev pub HasIndex : RangeIndex → List KeyRange → Type 0
+HasIndex index ranges = 0 < length index.last.items →
+    IsChained index.last.items index.before.items (map (bucket_of (length index.last.items)) ranges)
+
+-- there are, and it is known
 abbrev pub IsIndexOf : RangeIndex → List KeyRange → Type 0
-IsIndexOf index ranges = IsIndex index.points.keys index.known ranges
-
--- the same, where there is something that is known
-abbrev pub HasIndex : Option RangeIndex → List KeyRange → Type 0
-HasIndex None ranges = Unit {0}
-HasIndex (Some index) ranges = IsIndexOf index ranges
+IsIndexOf index ranges = (0 < length index.last.items) × HasIndex index ranges
 
 -- what is known of the same list
 abbrev pub IsKept : RangeIndex → RangeIndex → Type 0
-IsKept old new = (ranges : List KeyRange) → IsIndexOf old ranges → IsIndexOf new ranges
+IsKept old new = (ranges : List KeyRange) → HasIndex old ranges → HasIndex new ranges
 
--- what is known of the list with one range more at its end
-abbrev pub IsMore : KeyRange → RangeIndex → RangeIndex → Type 0
-IsMore range old new = (ranges : List KeyRange) → IsIndexOf old ranges → IsIndexOf new (ranges ++ range ∷ [])
+-- what is known of the list with one range of this bucket more at its end
+abbrev pub IsMore : ℕ → RangeIndex → RangeIndex → Type 0
+IsMore bucket old new = (length new.last.items ≡ length old.last.items) × ((ranges : List KeyRange) (range : KeyRange) →
+    bucket ≡ bucket_of (length old.last.items) range → HasIndex old ranges → HasIndex new (ranges ++ range ∷ []))

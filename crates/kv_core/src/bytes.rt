@@ -176,10 +176,14 @@ impl Bytes {
     }
 
     /// Whether this byte string comes before another one.
+    #[inline(always)]
     pub fn is_before(&self, other: &Bytes) -> bool
         ensures { result ≡ key_lt self.now other.now }
     {
-        self.compare(other).is_lt()
+        match (&self.kept, &other.kept) {
+            (Kept::Short(short), Kept::Short(other)) => short.is_before(other),
+            _ => order_of(self.as_slice(), other.as_slice()).is_lt(),
+        }
     }
 
     /// Whether this byte string is another one or comes before it.

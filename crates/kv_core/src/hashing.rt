@@ -1,4 +1,4 @@
-// The hash of byte strings. Used by `range_index`, whose set of points goes by it.
+// The hash of byte strings. Used by `txn` and `cluster_core`, whose maps go by it.
 ghost use Rattle.std.specs.Prelude.{[], ◌∷◌};
 ghost use Rattle.kv_core.specs.Hashing.{fed_alike};
 

@@ -1,10 +1,10 @@
 // The read set of a transaction, as a list of ranges. Held by a commit request (`change`), filled
 // by `txn`, gone through by the resolvers of `cluster_core`.
-ghost use Rattle.std.specs.Prelude.{◌≡◌, List, [], ◌∷◌, ◌++◌, IsTrue, IfOk, IsOk, OnOk, OnErr};
+ghost use Rattle.std.specs.Prelude.{◌≡◌, ◌<◌, List, [], ◌∷◌, ◌++◌, length};
+ghost use Rattle.std.specs.Prelude.{IsTrue, IfOk, IsOk, OnOk, OnErr};
 ghost use Rattle.std.specs.List.{list_any};
-ghost use Rattle.std.specs.Option.{option_copied};
 ghost use Rattle.kv_core.specs.Range.{KeyRange as Range, is_same_range, with_range, any_meets};
-ghost use Rattle.kv_core.specs.RangeIndex.{HasIndex};
+ghost use Rattle.kv_core.specs.RangeIndex.{HasIndex, bucket_of};
 
 use crate::range::KeyRange;
 use crate::range_index::RangeIndex;
@@ -16,12 +16,12 @@ const FEW: usize = 16;
 
 /// Ranges of keys, in the order in which they were added.
 ///
-/// Where they are many, an index of them stands beside the list, so that to add a range or to ask
-/// for one takes time that grows as the logarithm of the list at most.
+/// Where they are many, an index of them stands beside the list, by which a range is found among a
+/// few that share its hash.
 #[derive(Debug, Drop)]
 pub struct RangeList {
     ranges: Vec<KeyRange>,
-    index: Option<RangeIndex>,
+    index: RangeIndex,
 }
 
 impl Model for RangeList {
@@ -36,28 +36,36 @@ impl Model for RangeList {
     ghost invariant = { λ a. HasIndex a.index a.ranges.items };
 }
 
+/// How many buckets an index of so many ranges begins with: two to four for each, and a power of
+/// two, so that a hash is spread over all of them.
+fn bucket_count(ranges: usize) -> usize
+    ensures { 0 < result }
+{
+    let bits = usize::BITS.saturating_sub(ranges.leading_zeros());
+    1 << (bits + 1).min(usize::BITS - 1)
+}
+
 /// What is known of ranges, where they are many.
-fn index_of(alloc: Global, ranges: &[KeyRange]) -> Result<Option<RangeIndex>, AllocError>
+fn index_of(alloc: Global, ranges: &[KeyRange]) -> Result<RangeIndex, AllocError>
     ensures { IfOk result (λ index. HasIndex index ranges.now) }
 {
     if ranges.len() <= FEW {
-        return Ok(None);
+        return Ok(RangeIndex::new(alloc));
     }
-    let mut index = RangeIndex::new(alloc);
-    for range in ranges {
-        index.note(range)?;
-    }
-    Ok(Some(index))
+    RangeIndex::of(alloc, ranges, bucket_count(ranges.len()))
 }
 
-/// The same of an equal list.
-fn copy_index(index: Option<&RangeIndex>) -> Result<Option<RangeIndex>, AllocError>
-    ensures { IfOk result (λ copy. (ranges : List Range) →
-        HasIndex (option_copied index.entry) ranges → HasIndex copy ranges) }
+/// Whether there is a range with this begin and this end among these. The bucket of the range is
+/// given.
+fn has_range(index: &RangeIndex, ranges: &[KeyRange], range: &KeyRange, bucket: usize) -> bool
+    requires index { HasIndex index.now ranges.now }
+    requires bucket { bucket ≡ bucket_of (length index.now.last.items) range.now }
+    ensures { result ≡ list_any (is_same_range range.now) ranges.now }
 {
-    match index {
-        Some(index) => Ok(Some(index.copy()?)),
-        None => Ok(None),
+    if index.has_buckets() {
+        index.has(ranges, range, bucket)
+    } else {
+        ranges.iter().any(|own| range.is_same(own))
     }
 }
 
@@ -66,37 +74,35 @@ fn index_with(
     alloc: Global,
     ranges: &[KeyRange],
     range: &KeyRange,
-) -> Result<Option<RangeIndex>, AllocError>
+) -> Result<RangeIndex, AllocError>
     ensures { IfOk result (λ index. HasIndex index (ranges.now ++ range.now ∷ [])) }
 {
-    match index_of(alloc, ranges)? {
-        Some(index) => {
-            let mut index = index;
-            index.note(range)?;
-            Ok(Some(index))
-        }
-        None => Ok(None),
+    let mut index = index_of(alloc, ranges)?;
+    if index.has_buckets() {
+        index.note(index.bucket(range))?;
     }
+    Ok(index)
 }
 
-/// Notes one more range behind these.
+/// Notes one more range behind these, whose bucket is given.
 fn note_behind(
     alloc: Global,
-    index: &mut Option<RangeIndex>,
+    index: &mut RangeIndex,
     ranges: &[KeyRange],
     range: &KeyRange,
+    bucket: usize,
 ) -> Result<(), AllocError>
-    requires { HasIndex index.old ranges.now }
+    requires index { HasIndex index.old ranges.now }
+    requires bucket { bucket ≡ bucket_of (length index.old.last.items) range.now }
     ensures ok { OnOk result (HasIndex index.new (ranges.now ++ range.now ∷ [])) }
     ensures err { OnErr result (HasIndex index.new ranges.now) }
 {
-    match index {
-        Some(index) => index.note(range),
-        None => {
-            *index = index_with(alloc, ranges, range)?;
-            Ok(())
-        }
+    if index.has_room() {
+        return index.note(bucket);
     }
+    // As many ranges as buckets, or no buckets yet.
+    *index = index_with(alloc, ranges, range)?;
+    Ok(())
 }
 
 impl RangeList {
@@ -106,7 +112,7 @@ impl RangeList {
     {
         RangeList {
             ranges: Vec::new(alloc),
-            index: None,
+            index: RangeIndex::new(alloc),
         }
     }
 
@@ -123,7 +129,7 @@ impl RangeList {
         ensures { IfOk result (λ copy. copy ≡ self.now) }
     {
         let ranges = self.ranges.clone()?;
-        let index = copy_index(self.index.as_ref())?;
+        let index = self.index.copy()?;
         Ok(RangeList { ranges, index })
     }
 
@@ -138,10 +144,8 @@ impl RangeList {
     pub fn has(&self, range: &KeyRange) -> bool
         ensures { result ≡ list_any (is_same_range range.now) self.now }
     {
-        match &self.index {
-            Some(index) => index.has(range),
-            None => self.ranges.iter().any(|own| range.is_same(own)),
-        }
+        let bucket = self.index.bucket(range);
+        has_range(&self.index, self.ranges.as_slice(), range, bucket)
     }
 
     /// Adds a range at the end, unless the list has it, which takes no memory. Where memory runs
@@ -151,13 +155,15 @@ impl RangeList {
         ensures err { OnErr result (self.new ≡ self.old) }
         ensures had { IsTrue (list_any (is_same_range range) self.old) → IsOk result }
     {
-        if self.has(&range) {
+        let bucket = self.index.bucket(&range);
+        if has_range(&self.index, self.ranges.as_slice(), &range, bucket) {
             return Ok(());
         }
         // Room for the range is made first, so that nothing fails once it is noted.
         self.ranges.reserve(1)?;
         let alloc = *self.ranges.allocator();
-        note_behind(alloc, &mut self.index, self.ranges.as_slice(), &range)?;
+        let ranges = self.ranges.as_slice();
+        note_behind(alloc, &mut self.index, ranges, &range, bucket)?;
         self.ranges.push(range)?;
         Ok(())
     }

@@ -1,6 +1,7 @@
 // Byte strings that lie in their value. Used by `bytes`.
 ghost use Rattle.std.specs.Prelude.{◌≡◌, ◌≢◌, ◌≤◌, length, IfNone, IfSome, MatchBool};
-ghost use Rattle.kv_core.specs.Bytes.{key_cmp, next_key};
+ghost use Rattle.std.specs.Ordering.{nat_cmp};
+ghost use Rattle.kv_core.specs.Bytes.{key_cmp, key_lt, next_key};
 ghost use Rattle.kv_core.specs.declared.short_bytes.TheConstants.{SHORT_BYTES};
 
 use crate::words::{half_at, quarter_at, word_at};
@@ -34,33 +35,33 @@ impl Model for ShortBytes {
     ghost invariant = { λ a. (a.count ≤ SHORT_BYTES) × AreZeroFrom a.count a.bytes };
 }
 
-/// How two arrays compare that differ, or None: by three words, then a half and a quarter of one.
-/// None of them overlap, so that the compiler loads each at once.
+/// The first numbers that two arrays spell otherwise, or None where they are equal: of three words,
+/// then a half and a quarter of one. None of them overlap, so that the compiler loads each at once.
 #[inline(always)]
-fn order_if_differing(bytes: &[u8; SHORT_BYTES], others: &[u8; SHORT_BYTES]) -> Option<Ordering>
+fn first_differing(bytes: &[u8; SHORT_BYTES], others: &[u8; SHORT_BYTES]) -> Option<(u64, u64)>
     ensures same { IfNone result (bytes.now ≡ others.now) }
-    ensures differ { IfSome result (λ order. bytes.now ≢ others.now) }
-    ensures order { IfSome result (λ order. order ≡ key_cmp bytes.now others.now) }
+    ensures differ { IfSome result (λ pair. bytes.now ≢ others.now) }
+    ensures order { IfSome result (λ pair. nat_cmp pair.0 pair.1 ≡ key_cmp bytes.now others.now) }
 {
     let (word, other) = (word_at(bytes, 0), word_at(others, 0));
     if word != other {
-        return Some(word.cmp(&other));
+        return Some((word, other));
     }
     let (word, other) = (word_at(bytes, 8), word_at(others, 8));
     if word != other {
-        return Some(word.cmp(&other));
+        return Some((word, other));
     }
     let (word, other) = (word_at(bytes, 16), word_at(others, 16));
     if word != other {
-        return Some(word.cmp(&other));
+        return Some((word, other));
     }
     let (half, other) = (half_at(bytes, 24), half_at(others, 24));
     if half != other {
-        return Some(half.cmp(&other));
+        return Some((u64::from(half), u64::from(other)));
     }
     let (quarter, other) = (quarter_at(bytes, 28), quarter_at(others, 28));
     if quarter != other {
-        return Some(quarter.cmp(&other));
+        return Some((u64::from(quarter), u64::from(other)));
     }
     None
 }
@@ -92,9 +93,20 @@ impl ShortBytes {
     pub fn compare(&self, other: &ShortBytes) -> Ordering
         ensures { result ≡ key_cmp self.now other.now }
     {
-        match order_if_differing(&self.bytes, &other.bytes) {
-            Some(order) => order,
+        match first_differing(&self.bytes, &other.bytes) {
+            Some((word, other)) => word.cmp(&other),
             None => self.count.cmp(&other.count),
+        }
+    }
+
+    /// Whether this byte string comes before another one.
+    #[inline(always)]
+    pub fn is_before(&self, other: &ShortBytes) -> bool
+        ensures { result ≡ key_lt self.now other.now }
+    {
+        match first_differing(&self.bytes, &other.bytes) {
+            Some((word, other)) => word < other,
+            None => self.count < other.count,
         }
     }
 
@@ -129,7 +141,7 @@ impl ShortBytes {
         ensures { MatchBool result (self.now ≡ next_key other.now)
             (self.now ≡ next_key other.now → ⊥) }
     {
-        self.count == other.count + 1 && order_if_differing(&self.bytes, &other.bytes).is_none()
+        self.count == other.count + 1 && first_differing(&self.bytes, &other.bytes).is_none()
     }
 
     /// The allocator that the byte string keeps.

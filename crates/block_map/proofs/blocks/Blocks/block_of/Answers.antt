@@ -1,13 +1,9 @@
 use Rattle.block_map.proofs.Parted.{bounds_rise}
-use Rattle.block_map.proofs.Sought.{bound_found, bound_gap}
+use Rattle.block_map.proofs.Sought.{upto_in}
 use Rattle.block_map.proofs.blocks.Blocks.block_of.Goals as goal
 
-pub returns-in-Ok : goal.returns-in-Ok
-returns-in-Ok g c =
+pub returns : goal.returns
+returns g c =
     let ks = c.args.self.now.bounds.items in
-    bound_found c.args.key.now ks c.deref.result.now c.in-Ok.at c.deref.ensures.value (bounds_rise ks c.args.self.now.list.items c.requires.laid) c.in-Ok.ensures.bound c.in-Ok.ensures.position
-
-pub returns-in-Err : goal.returns-in-Err
-returns-in-Err g c =
-    let ks = c.args.self.now.bounds.items in
-    bound_gap c.args.key.now ks c.deref.result.now c.in-Err.at c.deref.ensures.value (bounds_rise ks c.args.self.now.list.items c.requires.laid) c.in-Err.ensures.bound c.in-Err.ensures.position
+    upto_in c.args.key.now ks c.as_slice.result.now c.count_upto.result c.as_slice.ensures.value (bounds_rise ks c.args.self.now.list.items c.requires.laid) c.count_upto.ensures.within c.count_upto.ensures.from
+    c.count_upto.ensures.before

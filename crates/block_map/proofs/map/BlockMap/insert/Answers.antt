@@ -1,7 +1,14 @@
 use Rattle.std.proofs.Common.{◌+◌, ◌∙◌, ap, sym}
 use Rattle.block_map.proofs.Mapped.{gone, place_within, put_count, put_updates, replaced_count, replaced_entries, replaced_updates, replaced_whole, value_is}
-use Rattle.kv_core.proofs.Indexes.{on_err}
+use Rattle.std.specs.Result.{OnErr}
+use Rattle.std.specs.declared.result.Result.{Result}
+use Rattle.std.specs.declared.result.Result.TheVariants.{Ok, Err}
 use Rattle.block_map.proofs.map.BlockMap.insert.Goals as goal
+
+-- what holds in any case holds of an error
+on_err : {T E P : Type 0} (r : Result T E) → P → OnErr r P
+on_err (Ok x) p = tt
+on_err (Err e) p = p
 
 pub replace-requires : goal.replace-requires
 replace-requires g c =

@@ -15,14 +15,14 @@ loop-rest-init c =
           (falling_in c.args.range.now c.args.self.now.chains c.args.reverse c.range-rest.ensures.ordered c.requires);
     }
 
-pub loop-rest-preserved-in_ok-push : goal.loop-rest-preserved-in_ok-push
-loop-rest-preserved-in_ok-push c =
+pub loop-rest-preserved-in_ok-push_pair : goal.loop-rest-preserved-in_ok-push_pair
+loop-rest-preserved-in_ok-push_pair c =
     let old = turned c.args.reverse c.loop-rest.rest in
     let more = turned c.args.reverse c.next_of.new.rest in
     let next = c.in-Some.ensures in record {
       pairs = read_pair c.args.version c.args.limit old more (c.in-Some.key.now, c.in-Some.chain.now) c.in-Some-value_at.value.now c.in_ok-copy.field-0 c.in_ok-copy-2.field-0 c.loop-rest.pairs.items
-          c.push.new.self.items _ (subst (λ n. n < c.args.limit) (c.len.ensures ∙ c.loop-rest.pairs.ok.0) c.loop-rest-test.true) next (sym c.in-Some-value_at.ensures) c.in_ok-copy.ensures c.in_ok-copy-2.ensures
-          c.in_ok-push.ensures.items c.loop-rest.invariant.pairs;
+          c.push_pair.new.pairs.items _ (subst (λ n. n < c.args.limit) (c.len.ensures ∙ c.loop-rest.pairs.ok.0) c.loop-rest-test.true) next (sym c.in-Some-value_at.ensures) c.in_ok-copy.ensures c.in_ok-copy-2.ensures
+          c.in_ok-push_pair.ensures c.loop-rest.invariant.pairs;
       falling = (subst (AllByRecursion (λ e. IsFalling (links_of e.1))) next c.loop-rest.invariant.falling).1;
     }
 

@@ -3,7 +3,7 @@ use Rattle.std.specs.Ordering.{is_eq, nat_cmp}
 use Rattle.kv_core.specs.Bytes.{key_cmp}
 use Rattle.kv_core.proofs.Order.{tied_keys}
 use Rattle.kv_core.proofs.Spelling.{AreBytes, word, level, eq_isnt_ne, ne_is_ne, word_decides, word_is_last, word_passes}
-use Rattle.kv_core.proofs.short_bytes.order_if_differing.Goals as goal
+use Rattle.kv_core.proofs.short_bytes.first_differing.Goals as goal
 
 module _ (own other : List ℕ) (p : length own ≡ 30) (q : length other ≡ 30) (g : AreBytes own) (h : AreBytes other) where
   -- what stands from a place on decides
@@ -26,14 +26,14 @@ pub returns-then-word-other-clause-order : goal.returns-then-word-other-clause-o
 returns-then-word-other-clause-order c =
     let own = c.args.bytes.now in
     let other = c.args.others.now in
-    c.cmp.ensures ∙ decide own other c.told-bytes c.told-others c.fits-bytes c.fits-others 8 0 _ _ (omega arith) c.word_at-word.ensures c.word_at-other.ensures c.if-word-other.true
+    decide own other c.told-bytes c.told-others c.fits-bytes c.fits-others 8 0 _ _ (omega arith) c.word_at-word.ensures c.word_at-other.ensures c.if-word-other.true
     refl
 
 pub returns-then-word-other-2-clause-order : goal.returns-then-word-other-2-clause-order
 returns-then-word-other-2-clause-order c =
     let own = c.args.bytes.now in
     let other = c.args.others.now in
-    c.cmp-then-word-other-2.ensures ∙ decide own other c.told-bytes c.told-others c.fits-bytes c.fits-others 8 8 _ _ (omega arith) c.word_at-word-2.ensures c.word_at-other-2.ensures c.if-word-other-2.true
+    decide own other c.told-bytes c.told-others c.fits-bytes c.fits-others 8 8 _ _ (omega arith) c.word_at-word-2.ensures c.word_at-other-2.ensures c.if-word-other-2.true
     (pass own other c.told-bytes c.told-others c.fits-bytes c.fits-others 8 0 _ _ (omega arith) c.word_at-word.ensures c.word_at-other.ensures c.if-word-other.false
     refl)
 
@@ -41,7 +41,7 @@ pub returns-then-word-other-3-clause-order : goal.returns-then-word-other-3-clau
 returns-then-word-other-3-clause-order c =
     let own = c.args.bytes.now in
     let other = c.args.others.now in
-    c.cmp-then-word-other-3.ensures ∙ decide own other c.told-bytes c.told-others c.fits-bytes c.fits-others 8 16 _ _ (omega arith) c.word_at-word-3.ensures c.word_at-other-3.ensures c.if-word-other-3.true
+    decide own other c.told-bytes c.told-others c.fits-bytes c.fits-others 8 16 _ _ (omega arith) c.word_at-word-3.ensures c.word_at-other-3.ensures c.if-word-other-3.true
     (pass own other c.told-bytes c.told-others c.fits-bytes c.fits-others 8 8 _ _ (omega arith) c.word_at-word-2.ensures c.word_at-other-2.ensures c.if-word-other-2.false
     (pass own other c.told-bytes c.told-others c.fits-bytes c.fits-others 8 0 _ _ (omega arith) c.word_at-word.ensures c.word_at-other.ensures c.if-word-other.false
     refl))
@@ -50,7 +50,8 @@ pub returns-then-half-other-clause-order : goal.returns-then-half-other-clause-o
 returns-then-half-other-clause-order c =
     let own = c.args.bytes.now in
     let other = c.args.others.now in
-    c.cmp-then-half-other.ensures ∙ decide own other c.told-bytes c.told-others c.fits-bytes c.fits-others 4 24 _ _ (omega arith) c.half_at-half.ensures c.half_at-other.ensures c.if-half-other.true
+    (λ i. nat_cmp (c.from.ensures i) (c.from-then-half-other.ensures i))
+    ∙ decide own other c.told-bytes c.told-others c.fits-bytes c.fits-others 4 24 _ _ (omega arith) c.half_at-half.ensures c.half_at-other.ensures c.if-half-other.true
     (pass own other c.told-bytes c.told-others c.fits-bytes c.fits-others 8 16 _ _ (omega arith) c.word_at-word-3.ensures c.word_at-other-3.ensures c.if-word-other-3.false
     (pass own other c.told-bytes c.told-others c.fits-bytes c.fits-others 8 8 _ _ (omega arith) c.word_at-word-2.ensures c.word_at-other-2.ensures c.if-word-other-2.false
     (pass own other c.told-bytes c.told-others c.fits-bytes c.fits-others 8 0 _ _ (omega arith) c.word_at-word.ensures c.word_at-other.ensures c.if-word-other.false
@@ -60,7 +61,8 @@ pub returns-then-quarter-other-clause-order : goal.returns-then-quarter-other-cl
 returns-then-quarter-other-clause-order c =
     let own = c.args.bytes.now in
     let other = c.args.others.now in
-    c.cmp-then-quarter-other.ensures ∙ last own other c.told-bytes c.told-others c.fits-bytes c.fits-others _ _ c.quarter_at-quarter.ensures c.quarter_at-other.ensures
+    (λ i. nat_cmp (c.from-then-quarter-other.ensures i) (c.from-then-quarter-other-2.ensures i))
+    ∙ last own other c.told-bytes c.told-others c.fits-bytes c.fits-others _ _ c.quarter_at-quarter.ensures c.quarter_at-other.ensures
     (pass own other c.told-bytes c.told-others c.fits-bytes c.fits-others 4 24 _ _ (omega arith) c.half_at-half.ensures c.half_at-other.ensures c.if-half-other.false
     (pass own other c.told-bytes c.told-others c.fits-bytes c.fits-others 8 16 _ _ (omega arith) c.word_at-word-3.ensures c.word_at-other-3.ensures c.if-word-other-3.false
     (pass own other c.told-bytes c.told-others c.fits-bytes c.fits-others 8 8 _ _ (omega arith) c.word_at-word-2.ensures c.word_at-other-2.ensures c.if-word-other-2.false
