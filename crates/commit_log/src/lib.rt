@@ -2,5 +2,7 @@
 #![tactic(auto)]
 
 mod device_log;
+mod opening;
 
 pub use device_log::{DeviceLog, NotBegun, begin_log};
+pub use opening::{OpenedLog, open_log};

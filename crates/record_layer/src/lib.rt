@@ -30,9 +30,9 @@ pub use planner::{Plan, PlanError};
 pub use query::{Filter, Operator, Query, QueryError};
 pub use record_store::{KnownSchema, Records, Store, StoreError, StoreNumber};
 pub use runtime::{
-    Body, Built, Client, CommandError, CommitError, Done, End, EnterError, Gate, GatePoint,
+    Base, Body, Built, Client, CommandError, CommitError, Done, End, EnterError, Gate, GatePoint,
     NotKept, OpenError, RunError, Seen, Txn, Waits, begin, begin_in, build_worker, build_worker_in,
-    open, open_kept,
+    open, open_kept, open_kept_over,
 };
 pub use schedule::{AskedQuery, Command, Reply, SharedPlan};
 pub use session::Session;

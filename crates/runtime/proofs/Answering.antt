@@ -18,7 +18,7 @@ use Rattle.runtime.specs.Keeping.{IsStored}
 -- what the lock told: the log that shows the outcome is one of the client's database, which the client knows then
 abbrev pub IsTold : Knowledge → Knowledge → CommitRequest → Trace → Outcome → Option Prefix → Type 0
 IsTold a b r t outcome None = Unit {0}
-IsTold a b r t outcome (Some f) = (f.name ≡ a.name) × Shows a.name.config f.log (entry a.number (a.last + 1) r t) outcome × IsPrefix f.log b.log
+IsTold a b r t outcome (Some f) = (f.name ≡ a.name) × Shows a.name.origin f.log (entry a.number (a.last + 1) r t) outcome × IsPrefix f.log b.log
 
 -- the log that shows it is the client's own
 learns : (a b : Knowledge) (r : CommitRequest) (t : Trace) (outcome : Outcome) (f : Prefix) → IsTold a b r t outcome (Some f) → b.last ≡ last_then a.last outcome → Learns a b r t outcome f.log
@@ -73,11 +73,11 @@ kept_where outcome seen false kept known is = absurd (true≢false (sym (closed_
 
 -- the same by the clauses of the lock
 pub told_by : (a b : Knowledge) (name : Name) (r : CommitRequest) (t : Trace) (outcome : Outcome) (seen : Option Prefix) → name ≡ a.name → IfSome seen (λ f. (f.name ≡ name) × IsPrefix f.log b.log) →
-    IfSome seen (λ f. Shows f.name.config f.log (entry a.number (a.last + 1) r t) outcome) → IsTold a b r t outcome seen
+    IfSome seen (λ f. Shows f.name.origin f.log (entry a.number (a.last + 1) r t) outcome) → IsTold a b r t outcome seen
 told_by a b name r t outcome None same known shows = tt
 told_by a b name r t outcome (Some f) same known shows =
     let of : f.name ≡ a.name = known.0 ∙ same in
-    (of, subst (λ (n : Name). Shows n.config f.log (entry a.number (a.last + 1) r t) outcome) of shows, known.1)
+    (of, subst (λ (n : Name). Shows n.origin f.log (entry a.number (a.last + 1) r t) outcome) of shows, known.1)
 
 -- ---- what is stored then
 

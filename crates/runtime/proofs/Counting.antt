@@ -7,7 +7,7 @@ use Rattle.std.proofs.lemmas.List.Elements.{filter-append}
 use Rattle.std.proofs.lemmas.List.Folds.{list_any-append}
 use Rattle.std.proofs.lemmas.List.Sums.{sum_by-append}
 use mathlib.Core.List.{IsPrefix}
-use Rattle.cluster_core.specs.declared.answers.Config.{Config}
+use Rattle.runtime.specs.Origins.{Origin}
 use Rattle.cluster_core.specs.Decision.{Cause}
 use Rattle.kv_core.specs.Range.{KeyRange}
 use Rattle.runtime.specs.declared.log_entry.Entry.{Entry}
@@ -81,14 +81,14 @@ none_before_by before more e client number is_client is_number once false is = i
 
 -- ---- committed entries of a longer log
 
-behind_append : (config : Config) (log xs ys : List Entry) → committed_behind config log (xs ++ ys) ≡ committed_behind config log xs ++ committed_behind config (log ++ xs) ys
-behind_append config log [] ys = ap (λ l. committed_behind config l ys) (sym (append-nil log))
-behind_append config log (x ∷ xs) ys =
-    let head : List Entry = cond (is_none (cause_next config log x.request)) (x ∷ []) [] in
-    let own : List Entry = committed_behind config (log ++ x ∷ []) xs in
-    ap (λ l. head ++ l) (behind_append config (log ++ x ∷ []) xs ys)
-    ∙ ap (λ l. head ++ (own ++ committed_behind config l ys)) (append_assoc log (x ∷ []) xs)
-    ∙ sym (append_assoc head own (committed_behind config (log ++ x ∷ xs) ys))
+behind_append : (origin : Origin) (log xs ys : List Entry) → committed_behind origin log (xs ++ ys) ≡ committed_behind origin log xs ++ committed_behind origin (log ++ xs) ys
+behind_append origin log [] ys = ap (λ l. committed_behind origin l ys) (sym (append-nil log))
+behind_append origin log (x ∷ xs) ys =
+    let head : List Entry = cond (is_none (cause_next origin log x.request)) (x ∷ []) [] in
+    let own : List Entry = committed_behind origin (log ++ x ∷ []) xs in
+    ap (λ l. head ++ l) (behind_append origin (log ++ x ∷ []) xs ys)
+    ∙ ap (λ l. head ++ (own ++ committed_behind origin l ys)) (append_assoc log (x ∷ []) xs)
+    ∙ sym (append_assoc head own (committed_behind origin (log ++ x ∷ xs) ys))
 
 filter_one_no : (p : Entry → Bool) (x : Entry) (b : Bool) → p x ≡ false → filter p (cond b (x ∷ []) []) ≡ []
 filter_one_no p x true fails = ap (λ t. cond t (x ∷ []) []) fails
@@ -98,13 +98,13 @@ filter_one_yes : (p : Entry → Bool) (x : Entry) (b : Bool) → p x ≡ true �
 filter_one_yes p x true passes = ap (λ t. cond t (x ∷ []) []) passes
 filter_one_yes p x false passes = refl
 
-none_behind : (p : Entry → Bool) (config : Config) (log xs : List Entry) → list_any p xs ≡ false → filter p (committed_behind config log xs) ≡ []
-none_behind p config log [] none = refl
-none_behind p config log (x ∷ xs) none =
-    let c : Bool = is_none (cause_next config log x.request) in
+none_behind : (p : Entry → Bool) (origin : Origin) (log xs : List Entry) → list_any p xs ≡ false → filter p (committed_behind origin log xs) ≡ []
+none_behind p origin log [] none = refl
+none_behind p origin log (x ∷ xs) none =
+    let c : Bool = is_none (cause_next origin log x.request) in
     let here : filter p (cond c (x ∷ []) []) ≡ [] = filter_one_no p x c (or_left_false (p x) (list_any p xs) none) in
-    let others : filter p (committed_behind config (log ++ x ∷ []) xs) ≡ [] = none_behind p config (log ++ x ∷ []) xs (or_right_false (p x) (list_any p xs) none) in
-    filter-append p (cond c (x ∷ []) []) (committed_behind config (log ++ x ∷ []) xs) ∙ (λ i. here i ++ others i)
+    let others : filter p (committed_behind origin (log ++ x ∷ []) xs) ≡ [] = none_behind p origin (log ++ x ∷ []) xs (or_right_false (p x) (list_any p xs) none) in
+    filter-append p (cond c (x ∷ []) []) (committed_behind origin (log ++ x ∷ []) xs) ∙ (λ i. here i ++ others i)
 
 none_in_by : (client above upto : ℕ) (x : Entry) (xs : List Entry) → ((n : ℕ) → above < n → n ≤ upto → has_submission client n (x ∷ xs) ≡ false) → (b : Bool) → is_numbered_in client above upto x ≡ b → is_numbered_in client above upto x ≡ false
 none_in_by client above upto x xs none true is =
@@ -126,22 +126,22 @@ none_in client above upto (x ∷ xs) none =
     (λ i. here i || others i)
 
 -- a longer log has no more of a client's entries whose numbers all stand already
-pub own_grown : (config : Config) (client above upto : ℕ) (xs ys : List Entry) → IsPrefix xs ys → is_once ys ≡ true → ((n : ℕ) → above < n → n ≤ upto → has_submission client n xs ≡ true) →
-    own_committed config client above upto ys ≡ own_committed config client above upto xs
-own_grown config client above upto xs ys p once given =
+pub own_grown : (origin : Origin) (client above upto : ℕ) (xs ys : List Entry) → IsPrefix xs ys → is_once ys ≡ true → ((n : ℕ) → above < n → n ≤ upto → has_submission client n xs ≡ true) →
+    own_committed origin client above upto ys ≡ own_committed origin client above upto xs
+own_grown origin client above upto xs ys p once given =
     let more : List Entry = p.0 in
     let once_more : is_once (xs ++ more) ≡ true = subst (λ (l : List Entry). is_once l ≡ true) (sym p.1) once in
     let test : Entry → Bool = is_numbered_in client above upto in
     let none : list_any test more ≡ false = none_in client above upto more (λ n low high. once_apart xs more client n once_more (given n low high)) in
-    ap (λ l. own_committed config client above upto l) (sym p.1)
-    ∙ ap (filter test) (behind_append config [] xs more)
-    ∙ filter-append test (committed_behind config [] xs) (committed_behind config xs more)
-    ∙ ap (λ l. own_committed config client above upto xs ++ l) (none_behind test config xs more none)
-    ∙ append-nil (own_committed config client above upto xs)
+    ap (λ l. own_committed origin client above upto l) (sym p.1)
+    ∙ ap (filter test) (behind_append origin [] xs more)
+    ∙ filter-append test (committed_behind origin [] xs) (committed_behind origin xs more)
+    ∙ ap (λ l. own_committed origin client above upto xs ++ l) (none_behind test origin xs more none)
+    ∙ append-nil (own_committed origin client above upto xs)
 
 -- between two numbers there is none
-pub own_none : (config : Config) (client above : ℕ) (xs : List Entry) → own_committed config client above above xs ≡ []
-own_none config client above xs = none_behind (is_numbered_in client above above) config [] xs (none_in client above above xs (λ n low high. absurd (omega (arith, low, high))))
+pub own_none : (origin : Origin) (client above : ℕ) (xs : List Entry) → own_committed origin client above above xs ≡ []
+own_none origin client above xs = none_behind (is_numbered_in client above above) origin [] xs (none_in client above above xs (λ n low high. absurd (omega (arith, low, high))))
 
 -- ---- one number more
 
@@ -182,22 +182,22 @@ sum_between f client above last (e ∷ es) le =
     parts p = ap (sum_by f) (filter-append p (e ∷ []) es) ∙ sum_by-append f (filter p (e ∷ [])) (filter p es)
 
 -- the entry of the next number, where it is committed
-own_next : (config : Config) (client last : ℕ) (before more : List Entry) (e : Entry) → e.client ≡ client → e.number ≡ last + 1 → is_once (before ++ e ∷ more) ≡ true →
-    own_committed config client last (last + 1) (before ++ e ∷ more) ≡ cond (is_none (cause_next config before e.request)) (e ∷ []) []
-own_next config client last before more e is_client is_number once =
+own_next : (origin : Origin) (client last : ℕ) (before more : List Entry) (e : Entry) → e.client ≡ client → e.number ≡ last + 1 → is_once (before ++ e ∷ more) ≡ true →
+    own_committed origin client last (last + 1) (before ++ e ∷ more) ≡ cond (is_none (cause_next origin before e.request)) (e ∷ []) []
+own_next origin client last before more e is_client is_number once =
     let test : Entry → Bool = is_numbered_in client last (last + 1) in
-    let c : Bool = is_none (cause_next config before e.request) in
+    let c : Bool = is_none (cause_next origin before e.request) in
     let low : nat_lt last e.number ≡ true = grind (arith, nat_tests) in
     let high : nat_le e.number (last + 1) ≡ true = grind (arith, nat_tests) in
     let yes : test e ≡ true = both_true (e.client == client) (nat_lt last e.number && nat_le e.number (last + 1)) (number_same e.client client is_client) (both_true (nat_lt last e.number) (nat_le e.number (last + 1)) low high) in
     let no_before : has_submission client (last + 1) before ≡ false = none_before_by before more e client (last + 1) is_client is_number once (has_submission client (last + 1) before) refl in
     let once_there : is_once ((before ++ e ∷ []) ++ more) ≡ true = subst (λ (l : List Entry). is_once l ≡ true) (sym (append_assoc before (e ∷ []) more)) once in
     let no_more : has_submission client (last + 1) more ≡ false = once_apart (before ++ e ∷ []) more client (last + 1) once_there (number_behind before) in
-    ap (filter test) (behind_append config [] before (e ∷ more))
-    ∙ filter-append test (committed_behind config [] before) (committed_behind config before (e ∷ more))
-    ∙ (λ i. none_behind test config [] before (only before no_before) i ++ filter test (committed_behind config before (e ∷ more)))
-    ∙ filter-append test (cond c (e ∷ []) []) (committed_behind config (before ++ e ∷ []) more)
-    ∙ (λ i. filter_one_yes test e c yes i ++ none_behind test config (before ++ e ∷ []) more (only more no_more) i)
+    ap (filter test) (behind_append origin [] before (e ∷ more))
+    ∙ filter-append test (committed_behind origin [] before) (committed_behind origin before (e ∷ more))
+    ∙ (λ i. none_behind test origin [] before (only before no_before) i ++ filter test (committed_behind origin before (e ∷ more)))
+    ∙ filter-append test (cond c (e ∷ []) []) (committed_behind origin (before ++ e ∷ []) more)
+    ∙ (λ i. filter_one_yes test e c yes i ++ none_behind test origin (before ++ e ∷ []) more (only more no_more) i)
     ∙ append-nil (cond c (e ∷ []) [])
   where
     only : (xs : List Entry) → has_submission client (last + 1) xs ≡ false → list_any (is_numbered_in client last (last + 1)) xs ≡ false
@@ -207,15 +207,15 @@ own_next config client last before more e is_client is_number once =
     number_behind xs = number_of_last client (last + 1) xs e is_client is_number
 
 -- what the committed entries weigh once the next number stands
-pub sum_next : (f : Entry → ℕ) (config : Config) (client above last : ℕ) (xs ys before : List Entry) (e : Entry) → above ≤ last → IsPrefix xs ys → IsPrefix (before ++ e ∷ []) ys → is_once ys ≡ true → e.client ≡ client → e.number ≡ last + 1 →
+pub sum_next : (f : Entry → ℕ) (origin : Origin) (client above last : ℕ) (xs ys before : List Entry) (e : Entry) → above ≤ last → IsPrefix xs ys → IsPrefix (before ++ e ∷ []) ys → is_once ys ≡ true → e.client ≡ client → e.number ≡ last + 1 →
     ((n : ℕ) → above < n → n ≤ last → has_submission client n xs ≡ true) →
-    sum_by f (own_committed config client above (last + 1) ys) ≡ sum_by f (own_committed config client above last xs) + sum_by f (cond (is_none (cause_next config before e.request)) (e ∷ []) [])
-sum_next f config client above last xs ys before e le grows ends once is_client is_number given =
+    sum_by f (own_committed origin client above (last + 1) ys) ≡ sum_by f (own_committed origin client above last xs) + sum_by f (cond (is_none (cause_next origin before e.request)) (e ∷ []) [])
+sum_next f origin client above last xs ys before e le grows ends once is_client is_number given =
     let all : ys ≡ before ++ e ∷ ends.0 = sym ends.1 ∙ append_assoc before (e ∷ []) ends.0 in
     let once_all : is_once (before ++ e ∷ ends.0) ≡ true = subst (λ (l : List Entry). is_once l ≡ true) all once in
-    sum_between f client above last (committed_behind config [] ys) le
-    ∙ (λ i. sum_by f (own_grown config client above last xs ys grows once given i) + sum_by f (own_committed config client last (last + 1) (all i)))
-    ∙ ap (λ l. sum_by f (own_committed config client above last xs) + sum_by f l) (own_next config client last before ends.0 e is_client is_number once_all)
+    sum_between f client above last (committed_behind origin [] ys) le
+    ∙ (λ i. sum_by f (own_grown origin client above last xs ys grows once given i) + sum_by f (own_committed origin client last (last + 1) (all i)))
+    ∙ ap (λ l. sum_by f (own_committed origin client above last xs) + sum_by f l) (own_next origin client last before ends.0 e is_client is_number once_all)
 
 -- ---- numbers that don't stand
 
@@ -268,14 +268,14 @@ alike client above low high e le none = by (e.client == client) refl (nat_le e.n
         let most : e.number ≤ high = grind (arith, nat_tests) in
         absurd (true≢false (sym (both_true (e.client == client) (e.number == e.number) is same) ∙ none e.number over most))
 
-behind_alike : (config : Config) (client above low high : ℕ) (log xs : List Entry) → low ≤ high → ((n : ℕ) → low < n → n ≤ high → has_submission client n xs ≡ false) →
-    filter (is_numbered_in client above high) (committed_behind config log xs) ≡ filter (is_numbered_in client above low) (committed_behind config log xs)
-behind_alike config client above low high log [] le none = refl
-behind_alike config client above low high log (x ∷ xs) le none =
-    let c : Bool = is_none (cause_next config log x.request) in
-    let more : List Entry = committed_behind config (log ++ x ∷ []) xs in
+behind_alike : (origin : Origin) (client above low high : ℕ) (log xs : List Entry) → low ≤ high → ((n : ℕ) → low < n → n ≤ high → has_submission client n xs ≡ false) →
+    filter (is_numbered_in client above high) (committed_behind origin log xs) ≡ filter (is_numbered_in client above low) (committed_behind origin log xs)
+behind_alike origin client above low high log [] le none = refl
+behind_alike origin client above low high log (x ∷ xs) le none =
+    let c : Bool = is_none (cause_next origin log x.request) in
+    let more : List Entry = committed_behind origin (log ++ x ∷ []) xs in
     let test : is_numbered_in client above high x ≡ is_numbered_in client above low x = alike client above low high x le (λ n over most. or_left_false (is_numbered_so client n x) (has_submission client n xs) (none n over most)) in
-    let rest : filter (is_numbered_in client above high) more ≡ filter (is_numbered_in client above low) more = behind_alike config client above low high (log ++ x ∷ []) xs le (λ n over most. or_right_false (is_numbered_so client n x) (has_submission client n xs) (none n over most)) in
+    let rest : filter (is_numbered_in client above high) more ≡ filter (is_numbered_in client above low) more = behind_alike origin client above low high (log ++ x ∷ []) xs le (λ n over most. or_right_false (is_numbered_so client n x) (has_submission client n xs) (none n over most)) in
     filter-append (is_numbered_in client above high) (cond c (x ∷ []) []) more
     ∙ (λ i. here c test i ++ rest i)
     ∙ sym (filter-append (is_numbered_in client above low) (cond c (x ∷ []) []) more)
@@ -285,9 +285,9 @@ behind_alike config client above low high log (x ∷ xs) le none =
     here false test = refl
 
 -- numbers that don't stand add no entry
-pub own_rest : (config : Config) (client above low high : ℕ) (log : List Entry) → low ≤ high → ((n : ℕ) → low < n → n ≤ high → has_submission client n log ≡ false) →
-    own_committed config client above high log ≡ own_committed config client above low log
-own_rest config client above low high log le none = behind_alike config client above low high [] log le none
+pub own_rest : (origin : Origin) (client above low high : ℕ) (log : List Entry) → low ≤ high → ((n : ℕ) → low < n → n ≤ high → has_submission client n log ≡ false) →
+    own_committed origin client above high log ≡ own_committed origin client above low log
+own_rest origin client above low high log le none = behind_alike origin client above low high [] log le none
 
 -- where a number stands each lower one does
 pub stands_below : (client low high : ℕ) (log : List Entry) → are_in_turn [] log ≡ true → 0 < low → low ≤ high → has_submission client high log ≡ true → has_submission client low log ≡ true

@@ -1,7 +1,7 @@
 -- What becomes of a request that was handed in, by what was due before it.
 use Rattle.std.proofs.Common.{◌≡◌, ℕ, ◌+◌, ◌-◌, ◌^◌, ◌<◌, List, [], ◌∷◌, ◌++◌, Option, Some, None, inl, inr, refl, sym, ap, ◌∙◌, subst, arith}
 use Rattle.std.specs.Prelude.{IfSome}
-use Rattle.cluster_core.specs.declared.answers.Config.{Config}
+use Rattle.runtime.specs.Origins.{Origin}
 use Rattle.cluster_core.specs.declared.answers.Reported.{Reported}
 use Rattle.cluster_core.specs.declared.answers.Reported.TheVariants as reported
 use Rattle.cluster_core.specs.Decision.{Cause}
@@ -36,16 +36,16 @@ something_told (Some why) version is = cc
 
 -- it was reported, and its entry is added
 pub handled_by : (old new : CommitView) (e : Entry) (r : Reported) → new.name ≡ old.name → new.published ≡ old.published → IsOneDue old.log old.due → HasEarlier old.due e →
-    r ≡ told (cause_next old.name.config old.due e.request) (version_of old.name.config old.due + 1) → GivesNext old.last new.last e → AddsEntry old new e → IsHandled old new e (outcome_by r)
+    r ≡ told (cause_next old.name.origin old.due e.request) (version_of old.name.origin old.due + 1) → GivesNext old.last new.last e → AddsEntry old new e → IsHandled old new e (outcome_by r)
 handled_by old new e (reported.Committed version) name published waiting earlier is gives adds =
-    let why = cause_next old.name.config old.due e.request in
-    let next : ℕ = version_of old.name.config old.due + 1 in
+    let why = cause_next old.name.origin old.due e.request in
+    let next : ℕ = version_of old.name.origin old.due + 1 in
     record { name = name; published = published; waiting = waiting; reason = sym (decided_told why next) ∙ ap outcome_by (sym is); earlier = earlier; numbers = gives; added = adds }
 handled_by old new e (reported.Conflict seen range) name published waiting earlier is gives adds =
-    let why = cause_next old.name.config old.due e.request in
-    let next : ℕ = version_of old.name.config old.due + 1 in
+    let why = cause_next old.name.origin old.due e.request in
+    let next : ℕ = version_of old.name.origin old.due + 1 in
     record { name = name; published = published; waiting = waiting; reason = sym (decided_told why next) ∙ ap outcome_by (sym is); earlier = earlier; numbers = gives; added = adds }
-handled_by old new e reported.NothingToDo name published waiting earlier is gives adds = absurd (something_told (cause_next old.name.config old.due e.request) (version_of old.name.config old.due + 1) is)
+handled_by old new e reported.NothingToDo name published waiting earlier is gives adds = absurd (something_told (cause_next old.name.origin old.due e.request) (version_of old.name.origin old.due + 1) is)
 
 -- it has a version, and its entry is due
 pub handled_unknown : (old new : CommitView) (e : Entry) → new.name ≡ old.name → new.published ≡ old.published → IsOneDue old.log old.due → HasEarlier old.due e → GivesNext old.last new.last e → LeavesEntry old new e → IsHandled old new e Unknown
@@ -62,7 +62,7 @@ pub handled_stays : (old new : CommitView) (e : Entry) → new ≡ old → IsOne
 handled_stays old new e same waiting earlier =
     handled_unfinished old new e (ap (λ (s : CommitView). s.name) same) (ap (λ (s : CommitView). s.published) same) (ap (λ (s : CommitView). s.log) same) (ap (λ (s : CommitView). s.due) same) (ap (λ (s : CommitView). s.last) same) waiting earlier
 
-pub handled_too_old : (old new : CommitView) (e : Entry) → new ≡ old → old.log ≡ old.due → HasEarlier old.due e → old.name.config.window < version_of old.name.config old.due - e.request.read_version → IsHandled old new e TooOld
+pub handled_too_old : (old new : CommitView) (e : Entry) → new ≡ old → old.log ≡ old.due → HasEarlier old.due e → old.name.origin.config.window < version_of old.name.origin old.due - e.request.read_version → IsHandled old new e TooOld
 handled_too_old old new e same idle earlier late = record {
   name = ap (λ (s : CommitView). s.name) same;
   published = ap (λ (s : CommitView). s.published) same;
@@ -73,7 +73,7 @@ handled_too_old old new e same idle earlier late = record {
   added = (ap (λ (s : CommitView). s.log) same ∙ idle, ap (λ (s : CommitView). s.due) same);
 }
 
-pub handled_exhausted : (old new : CommitView) (e : Entry) → new ≡ old → old.log ≡ old.due → HasEarlier old.due e → IsExhausted old.name.config old.due e → IsHandled old new e VersionsExhausted
+pub handled_exhausted : (old new : CommitView) (e : Entry) → new ≡ old → old.log ≡ old.due → HasEarlier old.due e → IsExhausted old.name.origin old.due e → IsHandled old new e VersionsExhausted
 handled_exhausted old new e same idle earlier none = record {
   name = ap (λ (s : CommitView). s.name) same;
   published = ap (λ (s : CommitView). s.published) same;
@@ -85,8 +85,8 @@ handled_exhausted old new e same idle earlier none = record {
 }
 
 -- no number is left for a client that was given the last one
-pub no_number : (config : Config) (log : List Entry) (e : Entry) → HasEarlier log e → e.number ≡ 2 ^ 64 → IsExhausted config log e
-no_number config log e earlier last = inr (last, earlier.stands (2 ^ 64 - 1) (omega arith) (omega (arith, last)))
+pub no_number : (origin : Origin) (log : List Entry) (e : Entry) → HasEarlier log e → e.number ≡ 2 ^ 64 → IsExhausted origin log e
+no_number origin log e earlier last = inr (last, earlier.stands (2 ^ 64 - 1) (omega arith) (omega (arith, last)))
 
 -- what was due is in the log
 abbrev pub finished : CommitView → CommitView
@@ -126,11 +126,11 @@ IsSubmitted old new e = (new.name ≡ old.name) × (new.published ≡ old.publis
 
 -- its entry was added too
 pub handled_done : (s0 s1 s2 s3 : CommitView) (client : ℕ) (request : CommitRequest) (trace : Trace) (r : Reported) → s1 ≡ finished s0 → IsOneDue s0.log s0.due → AreGiven s0.last s0.due →
-    r ≡ told (cause_next s1.name.config s1.due request) (version_of s1.name.config s1.due + 1) → GivesNext s1.last s2.last (next_entry s1.last client request trace) → IsSubmitted s1 s2 (next_entry s1.last client request trace) →
+    r ≡ told (cause_next s1.name.origin s1.due request) (version_of s1.name.origin s1.due + 1) → GivesNext s1.last s2.last (next_entry s1.last client request trace) → IsSubmitted s1 s2 (next_entry s1.last client request trace) →
     s3.name ≡ s2.name → s3.published ≡ s2.published → s3.log ≡ s2.due → s3.due ≡ s2.due → s3.last ≡ s2.last → IsHandled s0 s3 (next_entry s0.last client request trace) (outcome_by r)
 handled_done s0 s1 s2 s3 client request trace r is waiting given told_so gives taken name published log due last =
     let e : Entry = next_entry s0.last client request trace in
-    let told_then : r ≡ told (cause_next s0.name.config s0.due request) (version_of s0.name.config s0.due + 1) = subst (λ (s : CommitView). r ≡ told (cause_next s.name.config s.due request) (version_of s.name.config s.due + 1)) is told_so in
+    let told_then : r ≡ told (cause_next s0.name.origin s0.due request) (version_of s0.name.origin s0.due + 1) = subst (λ (s : CommitView). r ≡ told (cause_next s.name.origin s.due request) (version_of s.name.origin s.due + 1)) is told_so in
     let gave : GivesNext s0.last s2.last e = subst (λ (s : CommitView). GivesNext s.last s2.last (next_entry s.last client request trace)) is gives in
     let took : IsSubmitted (finished s0) s2 e = subst (λ (s : CommitView). IsSubmitted s s2 (next_entry s.last client request trace)) is taken in
     handled_by s0 s3 e r (name ∙ took.0) (published ∙ took.1) waiting (earlier_next s0.last client request trace s0.due given) told_then
@@ -164,20 +164,20 @@ due_ends s0 s1 s2 client request trace (Some prefix) is taken ends =
 
 -- ---- the log that shows it
 
-log_shows : (old new : CommitView) (e : Entry) (outcome : Outcome) → IsHandled old new e outcome → Shows old.name.config new.log e outcome
+log_shows : (old new : CommitView) (e : Entry) (outcome : Outcome) → IsHandled old new e outcome → Shows old.name.origin new.log e outcome
 log_shows old new e (Committed version) h =
     ((old.due, h.added.0, h.reason), subst (λ (l : List Entry). HasEarlier l e) (sym h.added.0) (earlier_begins old.due (old.due ++ e ∷ []) e (e ∷ [], refl) h.earlier))
 log_shows old new e (Conflict seen range) h =
     ((old.due, h.added.0, h.reason), subst (λ (l : List Entry). HasEarlier l e) (sym h.added.0) (earlier_begins old.due (old.due ++ e ∷ []) e (e ∷ [], refl) h.earlier))
 log_shows old new e TooOld h =
-    (subst (λ (l : List Entry). old.name.config.window < version_of old.name.config l - e.request.read_version) (sym h.added.0) h.reason, subst (λ (l : List Entry). HasEarlier l e) (sym h.added.0) h.earlier)
+    (subst (λ (l : List Entry). old.name.origin.config.window < version_of old.name.origin l - e.request.read_version) (sym h.added.0) h.reason, subst (λ (l : List Entry). HasEarlier l e) (sym h.added.0) h.earlier)
 log_shows old new e VersionsExhausted h =
-    (subst (λ (l : List Entry). IsExhausted old.name.config l e) (sym h.added.0) h.reason, subst (λ (l : List Entry). HasEarlier l e) (sym h.added.0) h.earlier)
+    (subst (λ (l : List Entry). IsExhausted old.name.origin l e) (sym h.added.0) h.reason, subst (λ (l : List Entry). HasEarlier l e) (sym h.added.0) h.earlier)
 log_shows old new e Unknown h = tt
 log_shows old new e Memory h = tt
 
 pub shows_by : (old new : CommitView) (e : Entry) (outcome : Outcome) (seen : Option Prefix) → IsHandled old new e outcome → IfSome seen (λ prefix. prefix ≡ log_prefix new.name new.log) →
-    IfSome seen (λ prefix. Shows prefix.name.config prefix.log e outcome)
+    IfSome seen (λ prefix. Shows prefix.name.origin prefix.log e outcome)
 shows_by old new e outcome None h is = tt
 shows_by old new e outcome (Some prefix) h is =
-    subst (λ (p : Prefix). Shows p.name.config p.log e outcome) (sym is) (subst (λ (n : Name). Shows n.config new.log e outcome) (sym h.name) (log_shows old new e outcome h))
+    subst (λ (p : Prefix). Shows p.name.origin p.log e outcome) (sym is) (subst (λ (n : Name). Shows n.origin new.log e outcome) (sym h.name) (log_shows old new e outcome h))

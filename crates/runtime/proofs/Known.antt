@@ -26,9 +26,9 @@ reader_later view me longer None name this known = known
 
 -- the transaction goes on over its log, which the longer one begins with
 pub begun_on : (me known : Prefix) (open_tx after : OpenTransaction) → IsBegun me (Some open_tx) → known.name ≡ me.name → IsPrefix me.log known.log → after.prefix ≡ open_tx.prefix →
-    IsOpenOver open_tx.prefix.name.config open_tx.prefix.log after.transaction after.trace → after.transaction.read_version ≡ open_tx.transaction.read_version → IsBegun known (Some after)
+    IsOpenOver open_tx.prefix.name.origin open_tx.prefix.log after.transaction after.trace → after.transaction.read_version ≡ open_tx.transaction.read_version → IsBegun known (Some after)
 begun_on me known open_tx after is name log prefix over version =
-    subst (λ (f : Prefix). (f.name ≡ known.name) × IsPrefix f.log known.log × IsOpenOver f.name.config f.log after.transaction after.trace × (after.transaction.read_version ≡ version_of f.name.config f.log)) (sym prefix)
+    subst (λ (f : Prefix). (f.name ≡ known.name) × IsPrefix f.log known.log × IsOpenOver f.name.origin f.log after.transaction after.trace × (after.transaction.read_version ≡ version_of f.name.origin f.log)) (sym prefix)
     (is.0 ∙ sym name, prefix_trans open_tx.prefix.log me.log known.log is.1 log, over, version ∙ is.3)
 
 -- a longer log begins with the one over which the transaction was begun
@@ -40,10 +40,10 @@ unanswered_on : (prefix : Prefix) (seen known : List Entry) (error : EnterError)
     IsUnanswered prefix seen error command old before new after → IsUnanswered prefix known error command old before new after
 unanswered_on prefix seen known NotEntered command old before new after learnt is = is
 unanswered_on prefix seen known TooOld command old before new after learnt is =
-    let config = prefix.name.config in
-    let window : ℕ = prefix.name.config.window in
-    let grown : version_of prefix.name.config seen ≤ version_of prefix.name.config known = version_begins prefix.name.config seen known (learnt refl) in
-    let above : window < version_of prefix.name.config seen - version_of prefix.name.config prefix.log = is.3 in
+    let origin = prefix.name.origin in
+    let window : ℕ = prefix.name.origin.config.window in
+    let grown : version_of prefix.name.origin seen ≤ version_of prefix.name.origin known = version_begins prefix.name.origin seen known (learnt refl) in
+    let above : window < version_of prefix.name.origin seen - version_of prefix.name.origin prefix.log = is.3 in
     (is.0, is.1, prefix_trans prefix.log seen known is.2 (learnt refl), omega (arith, grown, above))
 unanswered_on prefix seen known Memory command old before new after learnt is = is
 

@@ -19,6 +19,8 @@ pub mod Answering
 pub mod RunAttempts
 pub mod Replying
 pub mod Works
+pub mod ServersOver
+pub mod Bases
 pub mod Serving
 pub mod CommitLocks
 pub mod Sendable

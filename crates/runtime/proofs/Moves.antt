@@ -69,7 +69,7 @@ merges seat v other w x views h at apart there =
 
 -- what the published state has of a log
 abbrev pub state_at : Name → List Entry → TierState × Recent × Prefix
-state_at b log = (log_tier b.config log, outcomes_of b.config log, log_prefix b log)
+state_at b log = (log_tier b.origin log, outcomes_of b.origin log, log_prefix b log)
 
 abbrev pub state_of : Published → TierState × Recent × Prefix
 state_of x = (x.tier, x.recent, x.prefix)
@@ -88,8 +88,8 @@ pub folded : (b : Name) (log : List Entry) (ss : List Step) → LeadOn b log ss
 folded b log [] f = ap (state_at b) (none_more log)
 folded b log (s ∷ ss) f =
     let next : List Entry = log ++ submitted_entry s.submitted ∷ [] in
-    let tier : absorb_all s.mutations (log_tier b.config log) ≡ log_tier b.config next = ap (λ ms. absorb_all ms (log_tier b.config log)) f.0.1 ∙ tier_next b.config log (submitted_entry s.submitted) in
-    let kept : with_outcome (outcomes_of b.config log) s.submitted.client s.version ≡ outcomes_of b.config next = ap (with_outcome (outcomes_of b.config log) s.submitted.client) f.0.2 ∙ recent_next b.config log (submitted_entry s.submitted) in
+    let tier : absorb_all s.mutations (log_tier b.origin log) ≡ log_tier b.origin next = ap (λ ms. absorb_all ms (log_tier b.origin log)) f.0.1 ∙ tier_next b.origin log (submitted_entry s.submitted) in
+    let kept : with_outcome (outcomes_of b.origin log) s.submitted.client s.version ≡ outcomes_of b.origin next = ap (with_outcome (outcomes_of b.origin log) s.submitted.client) f.0.2 ∙ recent_next b.origin log (submitted_entry s.submitted) in
     let one : applied (state_at b log) s ≡ state_at b next = (λ i. (tier i, kept i, f.0.0 i)) in
     ap (λ (z : TierState × Recent × Prefix). fold applied z ss) one ∙ folded b next ss f.1 ∙ ap (state_at b) (append_one log (submitted_entry s.submitted) (entries_of ss))
 
@@ -106,8 +106,8 @@ entries_more (t ∷ ss) s = ap (λ es. submitted_entry t.submitted ∷ es) (entr
 pub fold_by : (b : Name) (log : List Entry) (y : Published) → state_of y ≡ state_at b log → IsFold y
 fold_by b log y is =
     let prefix : y.prefix ≡ log_prefix b log = ap (λ (z : TierState × Recent × Prefix). z.2) is in (
-      ap (λ (z : TierState × Recent × Prefix). z.0) is ∙ sym (ap (λ (r : Prefix). log_tier r.name.config r.log) prefix),
-      ap (λ (z : TierState × Recent × Prefix). z.1) is ∙ sym (ap (λ (r : Prefix). outcomes_of r.name.config r.log) prefix),
+      ap (λ (z : TierState × Recent × Prefix). z.0) is ∙ sym (ap (λ (r : Prefix). log_tier r.name.origin r.log) prefix),
+      ap (λ (z : TierState × Recent × Prefix). z.1) is ∙ sym (ap (λ (r : Prefix). outcomes_of r.name.origin r.log) prefix),
     )
 
 -- a state that the pending steps lead to

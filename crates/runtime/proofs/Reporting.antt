@@ -2,7 +2,7 @@
 use Rattle.std.proofs.Common.{◌≡◌, ℕ, ◌+◌, ◌-◌, ◌<◌, ◌≤◌, ◌^◌, Bool, true, false, cond, is_none, nat_lt, Option, None, Some, List, [], ◌∷◌, ◌++◌, length, refl, sym, ap, ◌∙◌, subst, arith, length-append, true≢false}
 use Rattle.std.proofs.lemmas.Bool.Decides.{nat_tests}
 use Rattle.kv_core.specs.declared.change.CommitRequest.{CommitRequest}
-use Rattle.cluster_core.specs.declared.answers.Config.{Config}
+use Rattle.runtime.specs.Origins.{Origin}
 use Rattle.cluster_core.specs.declared.answers.Reported.{Reported}
 use Rattle.cluster_core.specs.declared.answers.Reported.TheVariants as reported
 use Rattle.cluster_core.specs.declared.answers.SubmitError.{SubmitError}
@@ -31,17 +31,17 @@ use Rattle.commits.proofs.Handling.{outcome-last}
 use Rattle.runtime.proofs.WellFormed.{pipeline_next, lawful_next, open_begins, numbered_more}
 
 -- what is told of a request once the roles have handled it
-pub told_next : (config : Config) (log : List Entry) (e : Entry) → verdict e.request (pipeline_of config (log ++ e ∷ [])) ≡ told (cause_next config log e.request) (version_of config log + 1)
-told_next config log e =
-    let at : config.start + length (requests_of (log ++ e ∷ [])) ≡ version_of config log + 1 = omega (arith, ap length (requests_append log (e ∷ [])), length-append (requests_of log) (e.request ∷ [])) in
-    (λ i. told (cause config.resolver_splits (numbered config.start (requests_append log (e ∷ []) i)) (record { version = at i; request = e.request })) (at i))
-    ∙ ap (λ why. told why (version_of config log + 1)) (later_changes_nothing config.resolver_splits config.start (requests_of log) e.request (record { version = version_of config log + 1; request = e.request }) (omega arith))
+pub told_next : (origin : Origin) (log : List Entry) (e : Entry) → verdict e.request (pipeline_of origin (log ++ e ∷ [])) ≡ told (cause_next origin log e.request) (version_of origin log + 1)
+told_next origin log e =
+    let at : origin.config.start + length (requests_of (log ++ e ∷ [])) ≡ version_of origin log + 1 = omega (arith, ap length (requests_append log (e ∷ [])), length-append (requests_of log) (e.request ∷ [])) in
+    (λ i. told (cause origin.config.resolver_splits (numbered origin.config.start (requests_append log (e ∷ []) i)) (record { version = at i; request = e.request })) (at i))
+    ∙ ap (λ why. told why (version_of origin log + 1)) (later_changes_nothing origin.config.resolver_splits origin.config.start (requests_of log) e.request (record { version = version_of origin log + 1; request = e.request }) (omega arith))
 
-pub commit_next : (config : Config) (log : List Entry) (e : Entry) (p q : PipelineState) (r : Reported) → p ≡ pipeline_of config log → q ≡ all_handled (submit e.request p) → r ≡ verdict e.request q →
-    (q ≡ pipeline_of config (log ++ e ∷ [])) × (r ≡ told (cause_next config log e.request) (version_of config log + 1))
-commit_next config log e p q r old new is =
-    let next : q ≡ pipeline_of config (log ++ e ∷ []) = new ∙ ap (λ (s : PipelineState). all_handled (submit e.request s)) old ∙ pipeline_next config log e in
-    (next, is ∙ ap (verdict e.request) next ∙ told_next config log e)
+pub commit_next : (origin : Origin) (log : List Entry) (e : Entry) (p q : PipelineState) (r : Reported) → p ≡ pipeline_of origin log → q ≡ all_handled (submit e.request p) → r ≡ verdict e.request q →
+    (q ≡ pipeline_of origin (log ++ e ∷ [])) × (r ≡ told (cause_next origin log e.request) (version_of origin log + 1))
+commit_next origin log e p q r old new is =
+    let next : q ≡ pipeline_of origin (log ++ e ∷ []) = new ∙ ap (λ (s : PipelineState). all_handled (submit e.request s)) old ∙ pipeline_next origin log e in
+    (next, is ∙ ap (verdict e.request) next ∙ told_next origin log e)
 
 -- its entry is due whatever was reported
 pub due_decided : (r : Reported) (due : Due) (log : List Entry) → due_of (decided_due r due) log ≡ log ++ submitted_entry due.submitted ∷ []
@@ -51,14 +51,14 @@ due_decided reported.NothingToDo due log = refl
 
 -- a submission that comes next, of which this was reported
 pub decided_is : (n : Name) (log : List Entry) (due : Due) (q : PipelineState) (r : Reported) (why : Option Cause) (version : ℕ) → r ≡ told why version →
-    due.mutations ≡ due.submitted.request.value.mutations → q ≡ pipeline_of n.config (log ++ submitted_entry due.submitted ∷ []) → IsWellFormedLog n.config (log ++ submitted_entry due.submitted ∷ []) →
-    cause_next n.config log due.submitted.request.value ≡ why → version ≡ version_of n.config log + 1 → IsRecorded n log due → IsInFlight n log q (decided_due r due)
+    due.mutations ≡ due.submitted.request.value.mutations → q ≡ pipeline_of n.origin (log ++ submitted_entry due.submitted ∷ []) → IsWellFormedLog n.origin (log ++ submitted_entry due.submitted ∷ []) →
+    cause_next n.origin log due.submitted.request.value ≡ why → version ≡ version_of n.origin log + 1 → IsRecorded n log due → IsInFlight n log q (decided_due r due)
 decided_is n log due q r None version is own handled law cause at recorded =
-    let told_so : cause_next n.config log due.submitted.request.value ≡ None = cause in
+    let told_so : cause_next n.origin log due.submitted.request.value ≡ None = cause in
     subst (λ (t : Reported). IsInFlight n log q (decided_due t due)) (sym is) (
       handled,
       own ∙ sym (ap (λ why. cond (is_none why) due.submitted.request.value.mutations []) told_so),
-      at ∙ sym (ap (λ why. cond (is_none why) (version_of n.config log + 1) 0) told_so),
+      at ∙ sym (ap (λ why. cond (is_none why) (version_of n.origin log + 1) 0) told_so),
       law,
       recorded,
     )
@@ -66,7 +66,7 @@ decided_is n log due q r (Some why) version is own handled law cause at recorded
     subst (λ (t : Reported). IsInFlight n log q (decided_due t due)) (sym is) (
       handled,
       sym (ap (λ why. cond (is_none why) due.submitted.request.value.mutations []) cause),
-      sym (ap (λ why. cond (is_none why) (version_of n.config log + 1) 0) cause),
+      sym (ap (λ why. cond (is_none why) (version_of n.origin log + 1) 0) cause),
       law,
       recorded,
     )
@@ -76,10 +76,10 @@ room_by : (a b : Bool) → cond a (cond b (Some TooOld) None) (Some VersionsExha
 room_by true b h = refl
 room_by false b h = cc
 
-pub room_next : (config : Config) (log : List Entry) (p : PipelineState) (read_version : ℕ) → p ≡ pipeline_of config log → submit_refusal p read_version ≡ None → version_of config log + 1 < 2 ^ 64
-room_next config log p read_version is allowed =
+pub room_next : (origin : Origin) (log : List Entry) (p : PipelineState) (read_version : ℕ) → p ≡ pipeline_of origin log → submit_refusal p read_version ≡ None → version_of origin log + 1 < 2 ^ 64
+room_next origin log p read_version is allowed =
     let room : nat_lt (submitted p + 1) (2 ^ 64) ≡ true = room_by (nat_lt (submitted p + 1) (2 ^ 64)) (nat_lt p.window (submitted p - read_version)) allowed in
-    let at : submitted p ≡ version_of config log = ap submitted is in
+    let at : submitted p ≡ version_of origin log = ap submitted is in
     let lt : submitted p + 1 < 2 ^ 64 = grind (arith, nat_tests) in
     omega (arith, lt, at)
 
@@ -93,17 +93,17 @@ refused_by window room true true e h = ((λ is. refl), (λ is. absurd (cc (h, is
 refused_by window room true false e h = absurd (cc)
 refused_by window room false b e h = ((λ is. absurd (cc (h, is))), (λ is. refl))
 
-pub refused_old : (config : Config) (log : List Entry) (p : PipelineState) (read_version : ℕ) → p ≡ pipeline_of config log → submit_refusal p read_version ≡ Some TooOld → config.window < version_of config log - read_version
-refused_old config log p read_version is why =
+pub refused_old : (origin : Origin) (log : List Entry) (p : PipelineState) (read_version : ℕ) → p ≡ pipeline_of origin log → submit_refusal p read_version ≡ Some TooOld → origin.config.window < version_of origin log - read_version
+refused_old origin log p read_version is why =
     let late : nat_lt p.window (submitted p - read_version) ≡ true = (refused_by 0 0 (nat_lt (submitted p + 1) (2 ^ 64)) (nat_lt p.window (submitted p - read_version)) TooOld why).0 refl in
     let lt : p.window < submitted p - read_version = grind (arith, nat_tests) in
     subst (λ (s : PipelineState). s.window < submitted s - read_version) is lt
 
-pub refused_last : (config : Config) (log : List Entry) (p : PipelineState) (read_version : ℕ) → p ≡ pipeline_of config log → version_of config log < 2 ^ 64 → submit_refusal p read_version ≡ Some VersionsExhausted → version_of config log ≡ 2 ^ 64 - 1
-refused_last config log p read_version is below why =
+pub refused_last : (origin : Origin) (log : List Entry) (p : PipelineState) (read_version : ℕ) → p ≡ pipeline_of origin log → version_of origin log < 2 ^ 64 → submit_refusal p read_version ≡ Some VersionsExhausted → version_of origin log ≡ 2 ^ 64 - 1
+refused_last origin log p read_version is below why =
     let none : nat_lt (submitted p + 1) (2 ^ 64) ≡ false = (refused_by 0 0 (nat_lt (submitted p + 1) (2 ^ 64)) (nat_lt p.window (submitted p - read_version)) VersionsExhausted why).1 refl in
     let ge : 2 ^ 64 ≤ submitted p + 1 = grind (arith, nat_tests) in
-    let at : submitted p ≡ version_of config log = ap submitted is in
+    let at : submitted p ≡ version_of origin log = ap submitted is in
     omega (arith, ge, at, below)
 
 -- ---- the locked state after a request was reported
@@ -114,39 +114,39 @@ Taken n last log q r due =
     × (is_numbered (slice_set last due.submitted.client due.submitted.number) (log ++ submitted_entry due.submitted ∷ []) ≡ true)
 
 pub taken_next : (n : Name) (last : List ℕ) (log prefix : List Entry) (due : Due) (request : CommitRequest) (p q : PipelineState) (r : Reported) →
-    IsWellFormedLog n.config log → IsPrefix prefix log → IsOpenOver n.config prefix request due.submitted.trace → due.submitted.request.value ≡ request → is_numbered last log ≡ true → due.submitted.client < length last →
+    IsWellFormedLog n.origin log → IsPrefix prefix log → IsOpenOver n.origin prefix request due.submitted.trace → due.submitted.request.value ≡ request → is_numbered last log ≡ true → due.submitted.client < length last →
     slice_index last due.submitted.client < due.submitted.number → due.submitted.number ≡ count_of due.submitted.client log + 1 →
-    p ≡ pipeline_of n.config log → q ≡ all_handled (submit request p) → r ≡ verdict request q → is_some (submit_refusal p request.read_version) ≡ false → due.mutations ≡ request.mutations → IsRecorded n log due →
+    p ≡ pipeline_of n.origin log → q ≡ all_handled (submit request p) → r ≡ verdict request q → is_some (submit_refusal p request.read_version) ≡ false → due.mutations ≡ request.mutations → IsRecorded n log due →
     Taken n last log q r due
 taken_next n last log prefix due request p q r law begins over same num inside above turn old new told_so allowed copied recorded =
     let e : Entry = submitted_entry due.submitted in
-    let over_it : IsOpenOver n.config prefix e.request e.trace = subst (λ (v : CommitRequest). IsOpenOver n.config prefix v due.submitted.trace) (sym same) over in
+    let over_it : IsOpenOver n.origin prefix e.request e.trace = subst (λ (v : CommitRequest). IsOpenOver n.origin prefix v due.submitted.trace) (sym same) over in
     let handled : q ≡ all_handled (submit e.request p) = new ∙ ap (λ (v : CommitRequest). all_handled (submit v p)) (sym same) in
     let verdict_is : r ≡ verdict e.request q = told_so ∙ ap (λ (v : CommitRequest). verdict v q) (sym same) in
-    let next = commit_next n.config log e p q r old handled verdict_is in
-    let room : version_of n.config log + 1 < 2 ^ 64 = room_next n.config log p request.read_version old (none_by (submit_refusal p request.read_version) allowed) in
-    let more : IsWellFormedLog n.config (log ++ e ∷ []) = lawful_next n.config last log e law (open_begins n.config prefix log e begins over_it) num above turn room in (
-      decided_is n log due q r (cause_next n.config log e.request) (version_of n.config log + 1) next.1 (copied ∙ ap (λ (v : CommitRequest). v.mutations) (sym same)) next.0 more refl refl recorded,
+    let next = commit_next n.origin log e p q r old handled verdict_is in
+    let room : version_of n.origin log + 1 < 2 ^ 64 = room_next n.origin log p request.read_version old (none_by (submit_refusal p request.read_version) allowed) in
+    let more : IsWellFormedLog n.origin (log ++ e ∷ []) = lawful_next n.origin last log e law (open_begins n.origin prefix log e begins over_it) num above turn room in (
+      decided_is n log due q r (cause_next n.origin log e.request) (version_of n.origin log + 1) next.1 (copied ∙ ap (λ (v : CommitRequest). v.mutations) (sym same)) next.0 more refl refl recorded,
       numbered_more last due.submitted.client due.submitted.number log e inside above refl refl num,
     )
 
 -- ---- a submission that isn't reported
 
 -- what is told of the last entry of a log, once every role has handled it
-told_last : (config : Config) (log : List Entry) (e : Entry) → let p = pipeline_of config (log ++ e ∷ []) in outcome p (submitted p) ≡ told (cause_next config log e.request) (version_of config log + 1)
-told_last config log e =
-    let base = λ (qs : List CommitRequest). all_handled (record (first_pipeline config) { requests = qs }) in
+told_last : (origin : Origin) (log : List Entry) (e : Entry) → let p = pipeline_of origin (log ++ e ∷ []) in outcome p (submitted p) ≡ told (cause_next origin log e.request) (version_of origin log + 1)
+told_last origin log e =
+    let base = λ (qs : List CommitRequest). all_handled (record (first_pipeline origin.config) { requests = qs }) in
     let last : outcome (base (requests_of log ++ e.request ∷ [])) (submitted (base (requests_of log ++ e.request ∷ []))) ≡ verdict e.request (base (requests_of log ++ e.request ∷ [])) = outcome-last (record (base (requests_of log ++ e.request ∷ [])) { requests = requests_of log }) e.request in
     subst (λ (qs : List CommitRequest). outcome (base qs) (submitted (base qs)) ≡ verdict e.request (base qs)) (sym (requests_append log (e ∷ []))) last
-    ∙ told_next config log e
+    ∙ told_next origin log e
 
 -- it is reported
 pub due_reported : (n : Name) (log : List Entry) (due : Due) (p q : PipelineState) (r : Reported) → IsInFlight n log p (Unreported due) → q ≡ all_handled p → r ≡ outcome q (submitted q) → IsInFlight n log q (decided_due r due)
 due_reported n log due p q r was new is =
     let e : Entry = submitted_entry due.submitted in
-    let next : q ≡ pipeline_of n.config (log ++ e ∷ []) = new ∙ was.1 in
-    let told_so : r ≡ told (cause_next n.config log e.request) (version_of n.config log + 1) = is ∙ ap (λ (s : PipelineState). outcome s (submitted s)) next ∙ told_last n.config log e in
-    decided_is n log due q r (cause_next n.config log e.request) (version_of n.config log + 1) told_so was.2 next was.3 refl refl was.4
+    let next : q ≡ pipeline_of n.origin (log ++ e ∷ []) = new ∙ was.1 in
+    let told_so : r ≡ told (cause_next n.origin log e.request) (version_of n.origin log + 1) = is ∙ ap (λ (s : PipelineState). outcome s (submitted s)) next ∙ told_last n.origin log e in
+    decided_is n log due q r (cause_next n.origin log e.request) (version_of n.origin log + 1) told_so was.2 next was.3 refl refl was.4
 
 -- some more roles have handled it
 pub due_further : (n : Name) (log : List Entry) (due : Due) (p q : PipelineState) → IsInFlight n log p (Unreported due) → HasGoneOn p q → IsInFlight n log q (Unreported due)
@@ -166,13 +166,13 @@ held_whole request p q held =
 
 -- memory ran out after it was submitted
 pub held_next : (n : Name) (last : List ℕ) (log prefix : List Entry) (due : Due) (request : CommitRequest) (p q : PipelineState) →
-    IsWellFormedLog n.config log → IsPrefix prefix log → IsOpenOver n.config prefix request due.submitted.trace → due.submitted.request.value ≡ request → is_numbered last log ≡ true → due.submitted.client < length last →
+    IsWellFormedLog n.origin log → IsPrefix prefix log → IsOpenOver n.origin prefix request due.submitted.trace → due.submitted.request.value ≡ request → is_numbered last log ≡ true → due.submitted.client < length last →
     slice_index last due.submitted.client < due.submitted.number → due.submitted.number ≡ count_of due.submitted.client log + 1 →
-    p ≡ pipeline_of n.config log → HeldError holds.Unknown request (without_servers p) (without_servers q) → due.mutations ≡ request.mutations → IsRecorded n log due →
+    p ≡ pipeline_of n.origin log → HeldError holds.Unknown request (without_servers p) (without_servers q) → due.mutations ≡ request.mutations → IsRecorded n log due →
     Held n last log q due
 held_next n last log prefix due request p q law begins over same num inside above turn old held copied recorded =
     let e : Entry = submitted_entry due.submitted in
-    let over_it : IsOpenOver n.config prefix e.request e.trace = subst (λ (v : CommitRequest). IsOpenOver n.config prefix v due.submitted.trace) (sym same) over in
+    let over_it : IsOpenOver n.origin prefix e.request e.trace = subst (λ (v : CommitRequest). IsOpenOver n.origin prefix v due.submitted.trace) (sym same) over in
     let stands = held.1.2.stands in
     let given : PipelineState = submit request p in
     let more : length (p.requests ++ request ∷ []) ≡ length p.requests + 1 = length-append p.requests (request ∷ []) in
@@ -181,8 +181,8 @@ held_next n last log prefix due request p q law begins over same num inside abov
     let reported : q.reported ≡ p.reported = ap (λ (s : PipelineState). s.reported) stands in
     let handled : all_handled q ≡ all_handled given =
     ap all_handled stands ∙ handled_same given (first_raised held.1.0 p.resolved) (first_raised held.1.1 p.logged) (raised_length held.1.0 p.resolved) (raised_length held.1.1 p.logged) in
-    let next : all_handled q ≡ pipeline_of n.config (log ++ e ∷ []) =
-    handled ∙ ap (λ (s : PipelineState). all_handled (submit request s)) old ∙ ap (λ (v : CommitRequest). all_handled (submit v (pipeline_of n.config log))) (sym same) ∙ pipeline_next n.config log e in (
-      (omega (arith, more, caught, now, reported), next, copied ∙ ap (λ (v : CommitRequest). v.mutations) (sym same), lawful_next n.config last log e law (open_begins n.config prefix log e begins over_it) num above turn (room_next n.config log p request.read_version old held.0), recorded),
+    let next : all_handled q ≡ pipeline_of n.origin (log ++ e ∷ []) =
+    handled ∙ ap (λ (s : PipelineState). all_handled (submit request s)) old ∙ ap (λ (v : CommitRequest). all_handled (submit v (pipeline_of n.origin log))) (sym same) ∙ pipeline_next n.origin log e in (
+      (omega (arith, more, caught, now, reported), next, copied ∙ ap (λ (v : CommitRequest). v.mutations) (sym same), lawful_next n.origin last log e law (open_begins n.origin prefix log e begins over_it) num above turn (room_next n.origin log p request.read_version old held.0), recorded),
       numbered_more last due.submitted.client due.submitted.number log e inside above refl refl num,
     )

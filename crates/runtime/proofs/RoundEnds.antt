@@ -74,7 +74,7 @@ module _ (store : ℕ) {G : Type 0} (passed : G → GatePoint → G → Type 0) 
       let unsettled = round_lost store passed worker after one.round one.prefix a b is in
       subst (AreTokensOf b.name) (sym more) (names_more b.name s.lost.items one (tokens_kept a b p s on lost are) unsettled.0.1.1.0)
 
-module _ (store : ℕ) {G : Type 0} (passed : G → GatePoint → G → Type 0) (worker after : Worker G) (start a b : Knowledge) (p s : Progress) (on : GoesOnFrom a b) (law : IsWellFormedLog b.name.config b.log)
+module _ (store : ℕ) {G : Type 0} (passed : G → GatePoint → G → Type 0) (worker after : Worker G) (start a b : Knowledge) (p s : Progress) (on : GoesOnFrom a b) (law : IsWellFormedLog b.name.origin b.log)
     (built : s.built ≡ p.built) (marked : s.marked ≡ p.marked) (lost : s.lost.items ≡ p.lost.items) (is : IsProgress (store, worker.index) start a a.last p) where
   grown : a.last ≤ b.last → IsProgress (store, worker.index) start b a.last s
   grown le = progress_same (store, worker.index) start b a.last p s built marked lost (kept (store, worker.index) start a b a.last p on law.once le is)
@@ -100,7 +100,7 @@ module _ (store : ℕ) {G : Type 0} (passed : G → GatePoint → G → Type 0) 
 
 module _ (store : ℕ) {G : Type 0} (passed : G → GatePoint → G → Type 0) (worker after : Worker G) (start a b c : Knowledge) (t q : Progress) (on : GoesOnFrom a b) (asked : HasAsked b c) where
   -- it is committed, and is counted, or the numbers don't suffice for it
-  pub counts_progress : {X : Type 0} (r : Result X RunError) (round : Round) → CommitsRound store (Works passed) (worker, a) round (after, b) → IsWellFormedLog c.name.config c.log → IsSettledUpto (store, worker.index) start c a.last t → q.lost.items ≡ t.lost.items →
+  pub counts_progress : {X : Type 0} (r : Result X RunError) (round : Round) → CommitsRound store (Works passed) (worker, a) round (after, b) → IsWellFormedLog c.name.origin c.log → IsSettledUpto (store, worker.index) start c a.last t → q.lost.items ≡ t.lost.items →
       MatchResult r (λ _. HasCounted round t q) (λ error. (error ≡ GaveUp) × Overflows t.built round) → OnOk r (IsSettledUpto (store, worker.index) start c c.last q)
   counts_progress (Ok x) round commits law is lost has = committed_then (store, worker.index) start a b c t q on asked law is round (round_committed store passed worker after round a b commits) lost has
   counts_progress (Err error) round commits law is lost over = tt
@@ -110,7 +110,7 @@ module _ (store : ℕ) {G : Type 0} (passed : G → GatePoint → G → Type 0) 
   counts_round (Ok x) round commits has = takes_committed store (Works passed) (worker, a) (after, b) (after, c) refl asked round t q commits has
   counts_round (Err error) round commits over = tt
 
-  pub counts_ends : {X : Type 0} (r : Result X RunError) (round : Round) → CommitsRound store (Works passed) (worker, a) round (after, b) → IsWellFormedLog c.name.config c.log → IsSettledUpto (store, worker.index) start c a.last t →
+  pub counts_ends : {X : Type 0} (r : Result X RunError) (round : Round) → CommitsRound store (Works passed) (worker, a) round (after, b) → IsWellFormedLog c.name.origin c.log → IsSettledUpto (store, worker.index) start c a.last t →
       MatchResult r (λ _. HasCounted round t q) (λ error. (error ≡ GaveUp) × Overflows t.built round) → IfErr r (λ error. EndsWork store (Works passed) worker.index start (worker, a) error (after, c))
   counts_ends (Ok x) round commits law is has = tt
   counts_ends (Err error) round commits law is over =
@@ -133,7 +133,7 @@ module _ (store : ℕ) {G : Type 0} (passed : G → GatePoint → G → Type 0) 
   lost_ends (Err error) round due lost why = ends_lost store (Works passed) (worker, a) (after, b) (after, c) refl asked worker.index start error round due lost why
 
   -- it read too long ago, or was refused with a conflict
-  pub failed_progress : {X : Type 0} (r : Result X RunError) → AttemptFails store (Works passed) false (worker, a) (after, b) → OnOk r (IsWellFormedLog c.name.config c.log) →
+  pub failed_progress : {X : Type 0} (r : Result X RunError) → AttemptFails store (Works passed) false (worker, a) (after, b) → OnOk r (IsWellFormedLog c.name.origin c.log) →
       MatchResult r (λ _. IsSettledUpto (store, worker.index) start c a.last t) (λ error. AskingEnds (store, worker.index) start c error) → OnOk r (IsSettledUpto (store, worker.index) start c c.last t)
   failed_progress (Ok x) fails law is = nothing_then (store, worker.index) start a b c t t on asked law is (round_failed store passed worker after a b fails)
   failed_progress (Err error) fails law why = tt
@@ -148,10 +148,10 @@ module _ (store : ℕ) {G : Type 0} (passed : G → GatePoint → G → Type 0) 
   failed_ends (Err error) fails why = ends_failed store (Works passed) (worker, a) (after, b) (after, c) refl asked worker.index start error fails why
 
   -- it was refused
-  pub refused_progress : (error : CommandError) → IsRefusal store (Works passed) (worker, a) error (after, b) → IsWellFormedLog c.name.config c.log → IsSettledUpto (store, worker.index) start c a.last t → IsSettledUpto (store, worker.index) start c c.last t
+  pub refused_progress : (error : CommandError) → IsRefusal store (Works passed) (worker, a) error (after, b) → IsWellFormedLog c.name.origin c.log → IsSettledUpto (store, worker.index) start c a.last t → IsSettledUpto (store, worker.index) start c c.last t
   refused_progress error refused law is = nothing_then (store, worker.index) start a b c t t on asked law is (inl (round_refused store passed worker after error a b refused))
 
-  pub refused_ends : (error : CommandError) → IsRefusal store (Works passed) (worker, a) error (after, b) → IsWellFormedLog c.name.config c.log → IsSettledUpto (store, worker.index) start c a.last t → t.marked ≡ false →
+  pub refused_ends : (error : CommandError) → IsRefusal store (Works passed) (worker, a) error (after, b) → IsWellFormedLog c.name.origin c.log → IsSettledUpto (store, worker.index) start c a.last t → t.marked ≡ false →
       EndsWork store (Works passed) worker.index start (worker, a) (Refused error) (after, c)
   refused_ends error refused law is marked =
       ends_refused store (Works passed) (worker, a) (after, b) (after, c) refl asked worker.index start error refused

@@ -29,7 +29,7 @@ use Rattle.runtime.proofs.Counting.{or_left_false, or_right_false, own_grown, ow
 
 pub counted_first : (index : IndexIn) (k : Knowledge) → Counted index k k 0 0
 counted_first index k =
-    let none : own_of k k ≡ [] = own_none k.name.config k.number k.last k.log in
+    let none : own_of k k ≡ [] = own_none k.name.origin k.number k.last k.log in
     record {
       given = λ n low high. absurd (omega (arith, low, high));
       last = omega arith;
@@ -92,13 +92,13 @@ ends_there : (mid new : Knowledge) (open_tx : OpenTransaction) (outcome : Outcom
 ends_there mid new open_tx outcome submits = subst (λ (l : List Entry). IsPrefix l new.log) submits.1.1 submits.2
 
 sum_after : (f : Entry → ℕ) (index : IndexIn) (old mid new : Knowledge) (steps records : ℕ) (open_tx : OpenTransaction) (outcome : Outcome) → GoesOnFrom old mid → GoesOnFrom mid new → is_once new.log ≡ true → Counted index old mid steps records → (submits : IsSubmission mid new open_tx.transaction open_tx.trace outcome) →
-    sum_by f (own_of old new) ≡ sum_by f (own_of old mid) + sum_by f (cond (is_none (cause_next mid.name.config submits.1.0 open_tx.transaction)) (entry_by mid open_tx ∷ []) [])
+    sum_by f (own_of old new) ≡ sum_by f (own_of old mid) + sum_by f (cond (is_none (cause_next mid.name.origin submits.1.0 open_tx.transaction)) (entry_by mid open_tx ∷ []) [])
 sum_after f index old mid new steps records open_tx outcome before after once counted submits =
     let client : mid.number ≡ old.number = before.number in
-    let sum = sum_next f old.name.config old.number old.last mid.last mid.log new.log submits.1.0 (entry_by mid open_tx) counted.last after.log (ends_there mid new open_tx outcome submits) once client refl counted.given in
-    ap (λ (n : ℕ). sum_by f (own_committed old.name.config old.number old.last n new.log)) submits.3
+    let sum = sum_next f old.name.origin old.number old.last mid.last mid.log new.log submits.1.0 (entry_by mid open_tx) counted.last after.log (ends_there mid new open_tx outcome submits) once client refl counted.given in
+    ap (λ (n : ℕ). sum_by f (own_committed old.name.origin old.number old.last n new.log)) submits.3
     ∙ sum
-    ∙ ap (λ (n : Name). sum_by f (own_of old mid) + sum_by f (cond (is_none (cause_next n.config submits.1.0 open_tx.transaction)) (entry_by mid open_tx ∷ []) [])) (sym before.name)
+    ∙ ap (λ (n : Name). sum_by f (own_of old mid) + sum_by f (cond (is_none (cause_next n.origin submits.1.0 open_tx.transaction)) (entry_by mid open_tx ∷ []) [])) (sym before.name)
 
 given_by : (index : IndexIn) (old mid new : Knowledge) (steps records : ℕ) (open_tx : OpenTransaction) (outcome : Outcome) → GoesOnFrom old mid → GoesOnFrom mid new → Counted index old mid steps records → IsSubmission mid new open_tx.transaction open_tx.trace outcome →
     (n : ℕ) → old.last < n → n ≤ new.last → (b : Bool) → nat_le n mid.last ≡ b → has_submission old.number n new.log ≡ true
@@ -119,7 +119,7 @@ pub committed_sum : (f : Entry → ℕ) (index : IndexIn) (old mid new : Knowled
     sum_by f (own_of old new) ≡ sum_by f (own_of old mid) + f (entry_by mid open_tx)
 committed_sum f index old mid new steps records open_tx before after once counted commits =
     let submits : IsSubmission mid new open_tx.transaction open_tx.trace (outcomes.Committed commits.0) = commits.1 in
-    let none : is_none (cause_next mid.name.config submits.1.0 open_tx.transaction) ≡ true = none_decided (cause_next mid.name.config submits.1.0 open_tx.transaction) (version_of mid.name.config submits.1.0 + 1) commits.0 submits.1.2 in
+    let none : is_none (cause_next mid.name.origin submits.1.0 open_tx.transaction) ≡ true = none_decided (cause_next mid.name.origin submits.1.0 open_tx.transaction) (version_of mid.name.origin submits.1.0 + 1) commits.0 submits.1.2 in
     sum_after f index old mid new steps records open_tx (outcomes.Committed commits.0) before after once counted submits
     ∙ ap (λ b. sum_by f (own_of old mid) + sum_by f (cond b (entry_by mid open_tx ∷ []) [])) none
     ∙ (let z : 0 + f (entry_by mid open_tx) ≡ f (entry_by mid open_tx) = omega arith in ap (λ n. sum_by f (own_of old mid) + n) z)
@@ -128,7 +128,7 @@ committed_sum f index old mid new steps records open_tx before after once counte
 pub refused_sum : (f : Entry → ℕ) (index : IndexIn) (old mid new : Knowledge) (steps records : ℕ) (open_tx : OpenTransaction) (seen : ℕ) (range : KeyRange) → GoesOnFrom old mid → GoesOnFrom mid new → is_once new.log ≡ true → Counted index old mid steps records →
     IsSubmission mid new open_tx.transaction open_tx.trace (outcomes.Conflict seen range) → sum_by f (own_of old new) ≡ sum_by f (own_of old mid)
 refused_sum f index old mid new steps records open_tx seen range before after once counted submits =
-    let some : is_none (cause_next mid.name.config submits.1.0 open_tx.transaction) ≡ false = some_decided (cause_next mid.name.config submits.1.0 open_tx.transaction) (version_of mid.name.config submits.1.0 + 1) seen range submits.1.2 in
+    let some : is_none (cause_next mid.name.origin submits.1.0 open_tx.transaction) ≡ false = some_decided (cause_next mid.name.origin submits.1.0 open_tx.transaction) (version_of mid.name.origin submits.1.0 + 1) seen range submits.1.2 in
     sum_after f index old mid new steps records open_tx (outcomes.Conflict seen range) before after once counted submits
     ∙ ap (λ b. sum_by f (own_of old mid) + sum_by f (cond b (entry_by mid open_tx ∷ []) [])) some
     ∙ (let z : sum_by f (own_of old mid) + 0 ≡ sum_by f (own_of old mid) = omega arith in z)
@@ -145,8 +145,8 @@ committed_next index old mid new steps records open_tx before after once counted
 -- where no number was given the log may only have grown
 stayed_own : (index : IndexIn) (old mid new : Knowledge) (steps records : ℕ) → GoesOnFrom mid new → is_once new.log ≡ true → Counted index old mid steps records → new.last ≡ mid.last → own_of old new ≡ own_of old mid
 stayed_own index old mid new steps records after once counted same =
-    ap (λ (n : ℕ). own_committed old.name.config old.number old.last n new.log) same
-    ∙ own_grown old.name.config old.number old.last mid.last mid.log new.log after.log once counted.given
+    ap (λ (n : ℕ). own_committed old.name.origin old.number old.last n new.log) same
+    ∙ own_grown old.name.origin old.number old.last mid.last mid.log new.log after.log once counted.given
 
 stayed_next : (index : IndexIn) (old mid new : Knowledge) (steps records : ℕ) → GoesOnFrom mid new → is_once new.log ≡ true → Counted index old mid steps records → new.last ≡ mid.last → Counted index old new steps records
 stayed_next index old mid new steps records after once counted same =

@@ -6,21 +6,19 @@ use Rattle.std.proofs.lemmas.List.Elements.{All-contains, All-from_recursion}
 use Rattle.std.specs.List.{AllByRecursion}
 use Rattle.std.specs.Option.{option_or}
 use mathlib.Core.List.{IsPrefix}
-use Rattle.std.specs.FinMap.{empty}
 use Rattle.kv_core.specs.Map.{Map, Agree}
 use Rattle.kv_core.specs.Range.{KeyRange, has_keys}
 use Rattle.kv_core.specs.declared.change.CommitRequest.{CommitRequest}
 use Rattle.kv_core.specs.declared.change.Mutation.{Mutation}
-use Rattle.cluster_core.specs.declared.answers.Config.{Config}
+use Rattle.runtime.specs.Origins.{Origin, base_of, stores_before}
 use Rattle.kv_core.specs.declared.snapshot.ReadError.{ReadError}
 use Rattle.kv_core.specs.declared.snapshot.ReadError.TheVariants as reads
-use Rattle.cluster_core.specs.Configuration.{first_tier}
+use Rattle.cluster_core.specs.Configuration.{first_server_over, first_tier_over}
 use Rattle.cluster_core.specs.Decision.{Owned, owners, numbered, cut, is_committed, logged}
 use Rattle.cluster_core.specs.History as histories
-use Rattle.cluster_core.specs.History.{IsLegal}
+use Rattle.cluster_core.specs.History.{IsLegalOver}
 use Rattle.cluster_core.specs.Tier.{ServerState, TierState, absorb_each, absorb_all, after_log, first_refusal, refusal, refusal_of, whole_map}
-use Rattle.cluster_core.proofs.Legality.{committed_is_legal}
-use Rattle.cluster_core.proofs.LogMaps.{tier_has_database}
+use Rattle.cluster_core.proofs.Legality.{committed_is_legal_over}
 use Rattle.cluster_core.proofs.Versions.{rising-numbered}
 use Rattle.schedule.specs.declared.step.Command.{Command}
 use Rattle.schedule.specs.declared.reply.Reply.{Reply}
@@ -29,8 +27,6 @@ use Rattle.schedule.specs.Exact.{IsSerialAt}
 use Rattle.schedule.specs.Past.{Attempt, Open, Submission, is_changed}
 use Rattle.schedule.specs.Performed.{IsCommandStopped, IsPerformed, IsReadRefusal}
 use Rattle.schedule.specs.Turns.{AreDone, AreSubmitted, DidAttempt, IsOpenTransaction, fresh_request}
-use Rattle.schedule.specs.Holds.{no_stores}
-use Rattle.schedule.proofs.OwnStore.{holds_nothing}
 use Rattle.schedule.proofs.Composed.{holds_committed, open_served, performed_right, serial_all}
 use Rattle.schedule.proofs.Promised.{all_answered, exact_indexes}
 use Rattle.schedule.proofs.Submitting.{numbered_length}
@@ -47,6 +43,7 @@ use Rattle.cluster_core.specs.Refusing.{MayRefuse}
 use Rattle.txn.specs.Runs.{Ran}
 use Rattle.txn.proofs.Running.{ran_because}
 use Rattle.runtime.proofs.Entries.{map_begins, version_begins}
+use Rattle.runtime.proofs.ServersOver.{tier_has_base}
 
 -- ---- legal, holds, serial
 
@@ -57,18 +54,18 @@ reads_below maps reported last [] (request ∷ requests) are = absurd are
 reads_below maps reported last (one ∷ subs) [] are = absurd are
 reads_below maps reported last (one ∷ subs) (request ∷ requests) are = (are.0.below, reads_below maps reported (last + 1) subs requests are.1)
 
-pub legal_of : (config : Config) (log : List Entry) → IsWellFormedLog config log → IsLegal (history_of config log)
-legal_of config log law =
-    committed_is_legal config.resolver_splits (numbered_of config log) (rising-numbered config.start (requests_of log))
-    (All-from_recursion (λ (e : histories.Entry). e.request.read_version < e.version) (numbered_of config log) (reads_below (log_map config log) (version_of config log) config.start (submissions_of config log) (requests_of log) law.submitted))
+pub legal_of : (origin : Origin) (log : List Entry) → IsWellFormedLog origin log → IsLegalOver (base_of origin) (history_of origin log)
+legal_of origin log law =
+    committed_is_legal_over (base_of origin) origin.config.resolver_splits (numbered_of origin log) (rising-numbered origin.config.start (requests_of log))
+    (All-from_recursion (λ (e : histories.Entry). e.request.read_version < e.version) (numbered_of origin log) (reads_below (log_map origin log) (version_of origin log) origin.config.start (submissions_of origin log) (requests_of log) law.submitted))
 
 -- the map at each version holds of each store what the accepted commands of its committed entries up to there give
-pub holds_of : (config : Config) (log : List Entry) → IsWellFormedLog config log → HoldsEach config log
-holds_of config log law v below = holds_committed empty (pipeline_of config log) (submissions_of config log) no_stores holds_nothing (legal_of config log law) law.submitted v below
+pub holds_of : (origin : Origin) (log : List Entry) → IsWellFormedLog origin log → HoldsEach origin log
+holds_of origin log law v below = holds_committed (base_of origin) (pipeline_of origin log) (submissions_of origin log) (stores_before origin) law.begun.holds (legal_of origin log law) law.submitted v below
 
 -- version order is a serial order
-pub serial_of : (config : Config) (log : List Entry) → IsWellFormedLog config log → IsSerialLog config log
-serial_of config log law = serial_all empty (pipeline_of config log) (submissions_of config log) no_stores holds_nothing (legal_of config log law) law.submitted
+pub serial_of : (origin : Origin) (log : List Entry) → IsWellFormedLog origin log → IsSerialLog origin log
+serial_of origin log law = serial_all (base_of origin) (pipeline_of origin log) (submissions_of origin log) (stores_before origin) law.begun.holds (legal_of origin log law) law.submitted
 
 -- the requests were those of open transactions
 submitted_open : (maps : ℕ → Map) (reported last : ℕ) (subs : List Submission) (requests : List CommitRequest) → AreSubmitted maps reported last subs requests →
@@ -78,30 +75,30 @@ submitted_open maps reported last (one ∷ subs) [] are = absurd are
 submitted_open maps reported last (one ∷ subs) (request ∷ requests) are = ((request, are.0.open_as), submitted_open maps reported (last + 1) subs requests are.1)
 
 -- each accepted command has its reply at its transaction's read version
-pub served_of : (config : Config) (log : List Entry) → IsWellFormedLog config log → IsServedLog config log
-served_of config log law transaction (one, there, is) =
-    let open_as = All-contains WasOpen (submissions_of config log) one
-    (All-from_recursion WasOpen (submissions_of config log) (submitted_open (log_map config log) (version_of config log) config.start (submissions_of config log) (requests_of log) law.submitted)) there in
-    subst (λ (t : Open). IsSerialAt (committed_at config log t.store t.read_version) t.attempts) is
-    (open_served empty (pipeline_of config log) (submissions_of config log) no_stores holds_nothing (legal_of config log law) law.submitted one.transaction open_as.0 open_as.1)
+pub served_of : (origin : Origin) (log : List Entry) → IsWellFormedLog origin log → IsServedLog origin log
+served_of origin log law transaction (one, there, is) =
+    let open_as = All-contains WasOpen (submissions_of origin log) one
+    (All-from_recursion WasOpen (submissions_of origin log) (submitted_open (log_map origin log) (version_of origin log) origin.config.start (submissions_of origin log) (requests_of log) law.submitted)) there in
+    subst (λ (t : Open). IsSerialAt (committed_at origin log t.store t.read_version) t.attempts) is
+    (open_served (base_of origin) (pipeline_of origin log) (submissions_of origin log) (stores_before origin) law.begun.holds (legal_of origin log law) law.submitted one.transaction open_as.0 open_as.1)
   where
     WasOpen : Submission → Type 0
-    WasOpen one = (request : CommitRequest) × IsOpenTransaction (log_map config log) (version_of config log) one.transaction request
+    WasOpen one = (request : CommitRequest) × IsOpenTransaction (log_map origin log) (version_of origin log) one.transaction request
 
 -- the headline
-pub headline_of : (config : Config) (log : List Entry) → IsWellFormedLog config log → IsHeadlineOf config log
-headline_of config log law = record {
-  rows = λ transaction of_log. all_answered (committed_at config log transaction.store transaction.read_version) transaction.attempts (served_of config log law transaction of_log);
-  indexes = λ number lawful version from upto. exact_indexes number (log_map config log version) (committed_at config log number version) ((holds_of config log law version upto).each number lawful);
+pub headline_of : (origin : Origin) (log : List Entry) → IsWellFormedLog origin log → IsHeadlineOf origin log
+headline_of origin log law = record {
+  rows = λ transaction of_log. all_answered (committed_at origin log transaction.store transaction.read_version) transaction.attempts (served_of origin log law transaction of_log);
+  indexes = λ number lawful version from upto. exact_indexes number (log_map origin log version) (committed_at origin log number version) ((holds_of origin log law version upto).each number lawful);
 }
 
 -- ---- what the servers that have pulled a log answer
 
-log_length : (config : Config) (log : List Entry) → length (logged_mutations config log) ≡ length (requests_of log)
-log_length config log = length-map (numbered_of config log) (logged (is_committed config.resolver_splits (numbered_of config log))) ∙ numbered_length config.start (requests_of log)
+log_length : (origin : Origin) (log : List Entry) → length (logged_mutations origin log) ≡ length (requests_of log)
+log_length origin log = length-map (numbered_of origin log) (logged (is_committed origin.config.resolver_splits (numbered_of origin log))) ∙ numbered_length origin.config.start (requests_of log)
 
-pub tier_map : (config : Config) (log : List Entry) (v : ℕ) → config.start ≤ v → v ≤ version_of config log → version_of config log - v ≤ config.window → whole_map (log_tier config log) v ≡ log_map config log v
-tier_map config log v from upto near = tier_has_database config (requests_of log) v from upto near
+pub tier_map : (origin : Origin) (log : List Entry) (v : ℕ) → origin.config.start ≤ v → v ≤ version_of origin log → version_of origin log - v ≤ origin.config.window → whole_map (log_tier origin log) v ≡ log_map origin log v
+tier_map origin log v from upto near = tier_has_base (base_of origin) origin.config (requests_of log) v from upto near
 
 -- the servers of these owners stand at this version
 abbrev AreAtVersion : ℕ → List Owned → List ServerState → Type 0
@@ -124,9 +121,9 @@ same_frame : (log : List (List Mutation)) (tier : TierState) → ((after_log log
 same_frame [] tier = (refl, refl)
 same_frame (ms ∷ log) tier = same_frame log (absorb_all ms tier)
 
-first_at : (start : ℕ) (os : List Owned) → AreAtVersion start os (map (λ (_ : Owned). record { version = start; maps = Rattle.std.specs.FinMap.empty ∷ [] }) os)
-first_at start [] = tt
-first_at start (owner ∷ others) = (refl, first_at start others)
+first_at : (base : Map) (start : ℕ) (os : List Owned) → AreAtVersion start os (map (first_server_over base start) os)
+first_at base start [] = tt
+first_at base start (owner ∷ others) = (refl, first_at base start others)
 
 none_of : (window version v : ℕ) → v ≤ version → version - v ≤ window → cond (nat_lt version v) (Some reads.FutureVersion) (cond (nat_lt window (version - v)) (Some reads.TooOld) None) ≡ None
 none_of window version v upto near =
@@ -146,13 +143,13 @@ none_among window n v range (owner ∷ others) (server ∷ servers) at upto near
     by_test false r here rest = rest
 
 -- servers that have pulled a log refuse no read at its versions within the window
-pub tier_answers : (config : Config) (log : List Entry) (range : KeyRange) (v : ℕ) → v ≤ version_of config log → version_of config log - v ≤ config.window → refusal (log_tier config log) range v ≡ None
-tier_answers config log range v upto near =
-    let log_config = same_frame (logged_mutations config log) (first_tier config) in
-    let n = log_length config log in
-    (λ i. first_refusal (log_config.1 i) range v (owners (log_config.0 i)) (log_tier config log).servers)
-    ∙ none_among config.window (config.start + length (logged_mutations config log)) v range (owners config.storage_splits) (log_tier config log).servers
-    (pulled_log (logged_mutations config log) (first_tier config) config.start (first_at config.start (owners config.storage_splits))) (omega (arith, n, upto)) (omega (arith, n, near))
+pub tier_answers : (origin : Origin) (log : List Entry) (range : KeyRange) (v : ℕ) → v ≤ version_of origin log → version_of origin log - v ≤ origin.config.window → refusal (log_tier origin log) range v ≡ None
+tier_answers origin log range v upto near =
+    let frame = same_frame (logged_mutations origin log) (first_tier_over (base_of origin) origin.config) in
+    let n = log_length origin log in
+    (λ i. first_refusal (frame.1 i) range v (owners (frame.0 i)) (log_tier origin log).servers)
+    ∙ none_among origin.config.window (origin.config.start + length (logged_mutations origin log)) v range (owners origin.config.storage_splits) (log_tier origin log).servers
+    (pulled_log (logged_mutations origin log) (first_tier_over (base_of origin) origin.config) origin.config.start (first_at (base_of origin) origin.config.start (owners origin.config.storage_splits))) (omega (arith, n, upto)) (omega (arith, n, near))
 
 -- ---- a command that was performed over servers that have pulled more than the transaction's log
 
@@ -204,59 +201,59 @@ none_some None none some = cc
 none_some (Some x) none some = cc
 
 -- the map of servers that have pulled a longer log is the log's own at a version that they tell
-pub same_map : (config : Config) (log ys : List Entry) (version : ℕ) → IsPrefix log ys → version ≤ version_of config log → config.start ≤ version → version_of config ys - version ≤ config.window →
-    whole_map (log_tier config ys) version ≡ log_map config log version
-same_map config log ys version begins seen from near =
-    tier_map config ys version from (let l = version_begins config log ys begins in omega (arith, seen, l)) near ∙ map_begins config log ys version begins seen
+pub same_map : (origin : Origin) (log ys : List Entry) (version : ℕ) → IsPrefix log ys → version ≤ version_of origin log → origin.config.start ≤ version → version_of origin ys - version ≤ origin.config.window →
+    whole_map (log_tier origin ys) version ≡ log_map origin log version
+same_map origin log ys version begins seen from near =
+    tier_map origin ys version from (let l = version_begins origin log ys begins in omega (arith, seen, l)) near ∙ map_begins origin log ys version begins seen
 
 -- the transaction's facts stand over its own log, and the reply is the serial store's for what it sees there
-pub answers_right : (config : Config) (log ys : List Entry) (old new : CommitRequest) (trace : Trace) (command : Command) (answer : Reply) → IsWellFormedLog config log → IsPrefix log ys → IsOpenOver config log old trace → config.start ≤ old.read_version →
-    version_of config ys - old.read_version ≤ config.window → IsPerformed trace.store (whole_map (log_tier config ys)) (λ range. MayRefuse (log_tier config ys) range old.read_version) command answer old new →
-    IsOpenOver config log new (with_performed trace (record { command = command; reply = answer })) × IsAnswer config log old trace command answer × (new.read_version ≡ old.read_version)
-answers_right config log ys old new trace command answer law begins over from near performed =
-    let seen : old.read_version ≤ version_of config log = over.seen in
-    let reached : old.read_version ≤ version_of config ys = let l = version_begins config log ys begins in omega (arith, seen, l) in
-    let same : whole_map (log_tier config ys) old.read_version ≡ log_map config log old.read_version = same_map config log ys old.read_version begins seen from near in
-    let here : IsPerformed trace.store (log_map config log) (λ range. MayRefuse (log_tier config ys) range old.read_version) command answer old new = performed_elsewhere trace.store (whole_map (log_tier config ys)) (log_map config log) _ command answer old new same performed in
-    let grown = open_grown (log_map config log) (version_of config log) (opened old trace) old new (λ range. MayRefuse (log_tier config ys) range old.read_version) command answer over here in
-    let right = performed_right empty (pipeline_of config log) (submissions_of config log) no_stores holds_nothing (legal_of config log law) law.submitted (opened old trace) old new (λ v range. MayRefuse (log_tier config ys) range v) command answer over here in
+pub answers_right : (origin : Origin) (log ys : List Entry) (old new : CommitRequest) (trace : Trace) (command : Command) (answer : Reply) → IsWellFormedLog origin log → IsPrefix log ys → IsOpenOver origin log old trace → origin.config.start ≤ old.read_version →
+    version_of origin ys - old.read_version ≤ origin.config.window → IsPerformed trace.store (whole_map (log_tier origin ys)) (λ range. MayRefuse (log_tier origin ys) range old.read_version) command answer old new →
+    IsOpenOver origin log new (with_performed trace (record { command = command; reply = answer })) × IsAnswer origin log old trace command answer × (new.read_version ≡ old.read_version)
+answers_right origin log ys old new trace command answer law begins over from near performed =
+    let seen : old.read_version ≤ version_of origin log = over.seen in
+    let reached : old.read_version ≤ version_of origin ys = let l = version_begins origin log ys begins in omega (arith, seen, l) in
+    let same : whole_map (log_tier origin ys) old.read_version ≡ log_map origin log old.read_version = same_map origin log ys old.read_version begins seen from near in
+    let here : IsPerformed trace.store (log_map origin log) (λ range. MayRefuse (log_tier origin ys) range old.read_version) command answer old new = performed_elsewhere trace.store (whole_map (log_tier origin ys)) (log_map origin log) _ command answer old new same performed in
+    let grown = open_grown (log_map origin log) (version_of origin log) (opened old trace) old new (λ range. MayRefuse (log_tier origin ys) range old.read_version) command answer over here in
+    let right = performed_right (base_of origin) (pipeline_of origin log) (submissions_of origin log) (stores_before origin) law.begun.holds (legal_of origin log law) law.submitted (opened old trace) old new (λ v range. MayRefuse (log_tier origin ys) range v) command answer over here in
     let version : new.read_version ≡ old.read_version = performed.ran.version in (
-      subst (λ (o : Open). IsOpenTransaction (log_map config log) (version_of config log) o new) (λ i. record { store = trace.store; read_version = sym version i; attempts = sym (attempts_more trace.attempts.list (record { command = command; reply = answer })) i }) grown,
+      subst (λ (o : Open). IsOpenTransaction (log_map origin log) (version_of origin log) o new) (λ i. record { store = trace.store; read_version = sym version i; attempts = sym (attempts_more trace.attempts.list (record { command = command; reply = answer })) i }) grown,
       elim right [
         | inl served ↦ served
-        | inr refused ↦ absurd (unrefused (λ range. MayRefuse (log_tier config ys) range old.read_version) _ answer (λ range error is. none_some (refusal (log_tier config ys) range old.read_version) (tier_answers config ys range old.read_version reached near) is) refused)
+        | inr refused ↦ absurd (unrefused (λ range. MayRefuse (log_tier origin ys) range old.read_version) _ answer (λ range error is. none_some (refusal (log_tier origin ys) range old.read_version) (tier_answers origin ys range old.read_version reached near) is) refused)
       ],
       version,
     )
 
 -- the transaction goes on where a command stopped
-pub stops_right : (config : Config) (log ys : List Entry) (old new : CommitRequest) (trace : Trace) (command : Command) → IsPrefix log ys → IsOpenOver config log old trace → config.start ≤ old.read_version →
-    version_of config ys - old.read_version ≤ config.window → IsCommandStopped trace.store (whole_map (log_tier config ys)) command old new →
-    IsOpenOver config log new (with_performed trace (stopped command)) × (new.mutations ≡ old.mutations) × (new.read_version ≡ old.read_version)
-stops_right config log ys old new trace command begins over from near is =
-    let same : whole_map (log_tier config ys) old.read_version ≡ log_map config log old.read_version = same_map config log ys old.read_version begins over.seen from near in
-    let did = did_elsewhere trace.store (whole_map (log_tier config ys)) (log_map config log) (attempt_of (stopped command)) old new same (stopped_did trace.store (whole_map (log_tier config ys)) command old new is) in
+pub stops_right : (origin : Origin) (log ys : List Entry) (old new : CommitRequest) (trace : Trace) (command : Command) → IsPrefix log ys → IsOpenOver origin log old trace → origin.config.start ≤ old.read_version →
+    version_of origin ys - old.read_version ≤ origin.config.window → IsCommandStopped trace.store (whole_map (log_tier origin ys)) command old new →
+    IsOpenOver origin log new (with_performed trace (stopped command)) × (new.mutations ≡ old.mutations) × (new.read_version ≡ old.read_version)
+stops_right origin log ys old new trace command begins over from near is =
+    let same : whole_map (log_tier origin ys) old.read_version ≡ log_map origin log old.read_version = same_map origin log ys old.read_version begins over.seen from near in
+    let did = did_elsewhere trace.store (whole_map (log_tier origin ys)) (log_map origin log) (attempt_of (stopped command)) old new same (stopped_did trace.store (whole_map (log_tier origin ys)) command old new is) in
     let version : new.read_version ≡ old.read_version = is.ran.version in (
       record {
         store = over.store;
         at = refl;
-        seen = subst (λ (v : ℕ). v ≤ version_of config log) (sym version) over.seen;
-        done = subst (λ (attempts : List Attempt). AreDone trace.store (log_map config log) attempts (fresh_request new.read_version) new) (sym (attempts_more trace.attempts.list (stopped command)))
-            (done_append trace.store (log_map config log) (attempts_of trace.attempts.list) (attempt_of (stopped command)) (fresh_request new.read_version) old new
-            (subst (λ (v : ℕ). AreDone trace.store (log_map config log) (attempts_of trace.attempts.list) (fresh_request v) old) (sym version) over.done) did);
+        seen = subst (λ (v : ℕ). v ≤ version_of origin log) (sym version) over.seen;
+        done = subst (λ (attempts : List Attempt). AreDone trace.store (log_map origin log) attempts (fresh_request new.read_version) new) (sym (attempts_more trace.attempts.list (stopped command)))
+            (done_append trace.store (log_map origin log) (attempts_of trace.attempts.list) (attempt_of (stopped command)) (fresh_request new.read_version) old new
+            (subst (λ (v : ℕ). AreDone trace.store (log_map origin log) (attempts_of trace.attempts.list) (fresh_request v) old) (sym version) over.done) did);
       },
       is.ran.wrote ∙ append-nil old.mutations,
       version,
     )
 
 -- a transaction without mutations has changed nothing
-pub unchanged : (config : Config) (log : List Entry) (request : CommitRequest) (trace : Trace) → IsOpenOver config log request trace → request.mutations ≡ [] → is_changed (attempts_of trace.attempts.list) ≡ false
-unchanged config log request trace over none = open_changed (log_map config log) (version_of config log) (opened request trace) request over ∙ ap (λ (ms : List Mutation). not (length ms == 0)) none
+pub unchanged : (origin : Origin) (log : List Entry) (request : CommitRequest) (trace : Trace) → IsOpenOver origin log request trace → request.mutations ≡ [] → is_changed (attempts_of trace.attempts.list) ≡ false
+unchanged origin log request trace over none = open_changed (log_map origin log) (version_of origin log) (opened request trace) request over ∙ ap (λ (ms : List Mutation). not (length ms == 0)) none
 
 none_of_none : (ms : List Mutation) → not (length ms == 0) ≡ false → ms ≡ []
 none_of_none [] h = refl
 none_of_none (m ∷ ms) h = let some : (suc (length ms) == 0) ≡ false = grind (arith, nat_tests) in absurd (true≢false (ap not (sym some) ∙ h))
 
 -- one that has changed nothing has none
-pub nothing_written : (config : Config) (log : List Entry) (request : CommitRequest) (trace : Trace) → IsOpenOver config log request trace → is_changed (attempts_of trace.attempts.list) ≡ false → request.mutations ≡ []
-nothing_written config log request trace over none = none_of_none request.mutations (sym (open_changed (log_map config log) (version_of config log) (opened request trace) request over) ∙ none)
+pub nothing_written : (origin : Origin) (log : List Entry) (request : CommitRequest) (trace : Trace) → IsOpenOver origin log request trace → is_changed (attempts_of trace.attempts.list) ≡ false → request.mutations ≡ []
+nothing_written origin log request trace over none = none_of_none request.mutations (sym (open_changed (log_map origin log) (version_of origin log) (opened request trace) request over) ∙ none)

@@ -37,7 +37,7 @@ nothing_yet index k p records steps marked lost =
       above = k.last;
       follows = follows_self k;
       counted = record { given = none.given; last = none.last; steps = steps ∙ none.steps; records = records ∙ none.records };
-      marked = marked ∙ sym (ap (list_any (has_marked index)) (own_none k.name.config k.number k.last k.log));
+      marked = marked ∙ sym (ap (list_any (has_marked index)) (own_none k.name.origin k.number k.last k.log));
       lost = subst (AreUnsettled index k k.last k.last) (sym lost) refl;
       last = omega arith;
     }
@@ -68,7 +68,7 @@ round_there : (index : IndexIn) (round : Round) (k : Knowledge) (top : ℕ) → 
 round_there index (Built more) k top is = stands_there k top is.0.transaction is.0.trace (outcomes.Committed is.2.0) is.2.1
 round_there index Marked k top is = stands_there k top is.0.transaction is.0.trace (outcomes.Committed is.2.0) is.2.1
 
-module _ (index : IndexIn) (old k : Knowledge) (top : ℕ) (p q : Progress) (is : IsSettledUpto index old k top p) (law : IsWellFormedLog k.name.config k.log) (lost : q.lost.items ≡ p.lost.items) where
+module _ (index : IndexIn) (old k : Knowledge) (top : ℕ) (p q : Progress) (is : IsSettledUpto index old k top p) (law : IsWellFormedLog k.name.origin k.log) (lost : q.lost.items ≡ p.lost.items) where
   -- all is settled where the next number stands
   nothing_open : has_submission k.number (top + 1) k.log ≡ true → p.lost.items ≡ []
   nothing_open there = none_open index k is.0.above top p.lost.items is.0.lost is.1 law.in_turn there
@@ -118,7 +118,7 @@ module _ (index : IndexIn) (old k : Knowledge) (top : ℕ) (p q : Progress) (is 
       too_much index old (upto top k) k p q (upto_from old k top is.0.follows) (upto_all k top) law.once round (known none) came over
 
 -- a round began after these were settled or are lost, and then the client asked
-module _ (index : IndexIn) (old a b c : Knowledge) (p q : Progress) (on : GoesOnFrom a b) (asked : HasAsked b c) (law : IsWellFormedLog c.name.config c.log) (is : IsSettledUpto index old c a.last p) where
+module _ (index : IndexIn) (old a b c : Knowledge) (p q : Progress) (on : GoesOnFrom a b) (asked : HasAsked b c) (law : IsWellFormedLog c.name.origin c.log) (is : IsSettledUpto index old c a.last p) where
   later : (round : Round) → IsWorkerRound index (Some round) a b → IsWorkerRound index (Some round) (upto a.last c) c
   later round came =
       let all : GoesOnFrom a c = follows_trans on (asked_follows b c asked) in

@@ -2,15 +2,15 @@
 use Rattle.std.proofs.Common.{◌≡◌, ℕ, true, List, [], ◌∷◌, refl}
 use Rattle.kv_core.specs.Range.{KeyRange, point}
 use Rattle.kv_core.specs.declared.change.Mutation.TheVariants.{Set}
-use Rattle.cluster_core.specs.declared.answers.Config.{Config}
+use Rattle.runtime.specs.Origins.{Origin, origin_of}
 use Rattle.runtime.specs.declared.log_entry.Entry.{Entry}
 use Rattle.runtime.specs.declared.submission_status.SubmissionStatus.TheVariants.{Committed, Refused, Pending}
 use Rattle.runtime.specs.declared.submission_status.SubmissionStatus.TheVariants.{Forgotten, NotSubmitted}
 use Rattle.runtime.specs.Logs.{are_in_turn, count_of}
 use Rattle.runtime.specs.Submissions.{outcome_in, outcomes_of, read_status, recent, told_status}
 
-abbrev config : Config
-config = record { resolver_splits = []; storage_splits = []; logs = 1; window = 1000; start = 0; places = 2 }
+abbrev origin : Origin
+origin = origin_of (record { resolver_splits = []; storage_splits = []; logs = 1; window = 1000; start = 0; places = 2 }) []
 
 -- a submission that read this, and wrote a key
 abbrev wrote : ℕ → ℕ → ℕ → List KeyRange → Entry
@@ -31,29 +31,29 @@ in_turn = refl
 counted : count_of 0 log ≡ 2
 counted = refl
 
-first : outcome_in config log 0 1 ≡ Committed 1
+first : outcome_in origin log 0 1 ≡ Committed 1
 first = refl
 
-refused : outcome_in config log 1 1 ≡ Refused
+refused : outcome_in origin log 1 1 ≡ Refused
 refused = refl
 
-second : outcome_in config log 0 2 ≡ Committed 3
+second : outcome_in origin log 0 2 ≡ Committed 3
 second = refl
 
-third : outcome_in config log 0 3 ≡ Pending
+third : outcome_in origin log 0 3 ≡ Pending
 third = refl
 
 -- a client that was given two numbers
-not_before : told_status config log 0 2 0 ≡ NotSubmitted
+not_before : told_status origin log 0 2 0 ≡ NotSubmitted
 not_before = refl
 
-not_after : told_status config log 0 2 3 ≡ NotSubmitted
+not_after : told_status origin log 0 2 3 ≡ NotSubmitted
 not_after = refl
 
-kept_first : read_status (outcomes_of config log) 0 1 ≡ Committed 1
+kept_first : read_status (outcomes_of origin log) 0 1 ≡ Committed 1
 kept_first = refl
 
-kept_refused : read_status (outcomes_of config log) 1 1 ≡ Refused
+kept_refused : read_status (outcomes_of origin log) 1 1 ≡ Refused
 kept_refused = refl
 
 -- of 200 submissions the last 128 are kept

@@ -4,7 +4,7 @@ use Rattle.std.specs.Prelude.{count_by, sum_by}
 use Rattle.std.specs.List.{list_any, remove}
 use mathlib.Core.List.{IsPrefix}
 use Rattle.kv_core.specs.declared.change.CommitRequest.{CommitRequest}
-use Rattle.cluster_core.specs.declared.answers.Config.{Config}
+use Rattle.runtime.specs.Origins.{Origin}
 use Rattle.cluster_core.specs.Decision.{Cause}
 use Rattle.runtime.specs.declared.worker_progress.Built.{Built as Totals}
 use Rattle.runtime.specs.declared.worker_progress.Progress.{Progress}
@@ -76,36 +76,36 @@ refused_so None version is = absurd (cc (is))
 refused_so (Some why) version is = (why, refl)
 
 -- what a log that begins with that of the submission says of it is decided by the entries before it
-pub decides : (config : Config) (before log : List Entry) (e : Entry) → IsPrefix (before ++ e ∷ []) log → is_once log ≡ true → outcome_in config log e.client e.number ≡ status_next config before e.request
-decides config before log e begins once =
+pub decides : (origin : Origin) (before log : List Entry) (e : Entry) → IsPrefix (before ++ e ∷ []) log → is_once log ≡ true → outcome_in origin log e.client e.number ≡ status_next origin before e.request
+decides origin before log e begins once =
     let all : before ++ e ∷ begins.0 ≡ log = sym (append_assoc before (e ∷ []) begins.0) ∙ begins.1 in
     let once_all : is_once (before ++ e ∷ begins.0) ≡ true = subst (λ (l : List Entry). is_once l ≡ true) (sym all) once in
     let none : has_submission e.client e.number before ≡ false = none_before_by before begins.0 e e.client e.number refl refl once_all (has_submission e.client e.number before) refl in
-    ap (λ (l : List Entry). outcome_in config l e.client e.number) (sym all) ∙ outcome_of_entry config before begins.0 e none
+    ap (λ (l : List Entry). outcome_in origin l e.client e.number) (sym all) ∙ outcome_of_entry origin before begins.0 e none
 
 -- what the log says of a submission that is lost is decided by the entries before its own
-settled_next : (index : IndexIn) (old new : Knowledge) (one : Unsettled) (status : SubmissionStatus) → (is : IsUnsettled index old one) → IsPrefix one.prefix.log new.log → is_once new.log ≡ true → outcome_in old.name.config new.log old.number one.number ≡ status →
-    status_next old.name.config is.1.1.1.0 is.0 ≡ status
+settled_next : (index : IndexIn) (old new : Knowledge) (one : Unsettled) (status : SubmissionStatus) → (is : IsUnsettled index old one) → IsPrefix one.prefix.log new.log → is_once new.log ≡ true → outcome_in old.name.origin new.log old.number one.number ≡ status →
+    status_next old.name.origin is.1.1.1.0 is.0 ≡ status
 settled_next index old new one status is begins once told =
     let e : Entry = entry old.number one.number is.0 is.1.0 in
     let grown : IsPrefix (is.1.1.1.0 ++ e ∷ []) new.log = subst (λ (l : List Entry). IsPrefix l new.log) is.1.1.1.1 begins in
-    sym (decides old.name.config is.1.1.1.0 new.log e grown once) ∙ told
+    sym (decides old.name.origin is.1.1.1.0 new.log e grown once) ∙ told
 
 -- so one that is committed was, as if that had been told
 pub settled_committed : (index : IndexIn) (old new : Knowledge) (above v : ℕ) (one : Unsettled) → one.number ≡ above + 1 → (is : IsUnsettled index old one) → IsPrefix one.prefix.log new.log → is_once new.log ≡ true →
-    outcome_in old.name.config new.log old.number one.number ≡ Committed v → IsSubmission (upto above old) (upto (above + 1) new) is.0 is.1.0 (outcomes.Committed v)
+    outcome_in old.name.origin new.log old.number one.number ≡ Committed v → IsSubmission (upto above old) (upto (above + 1) new) is.0 is.1.0 (outcomes.Committed v)
 settled_committed index old new above v one next is begins once told =
     let before : List Entry = is.1.1.1.0 in
-    let by : status_next old.name.config before is.0 ≡ Committed v = settled_next index old new one (Committed v) is begins once told in
-    let reason : IsReason old.name.config before (entry old.number one.number is.0 is.1.0) (outcomes.Committed v) = committed_so (cause_next old.name.config before is.0) (version_of old.name.config before + 1) v by in
+    let by : status_next old.name.origin before is.0 ≡ Committed v = settled_next index old new one (Committed v) is begins once told in
+    let reason : IsReason old.name.origin before (entry old.number one.number is.0 is.1.0) (outcomes.Committed v) = committed_so (cause_next old.name.origin before is.0) (version_of old.name.origin before + 1) v by in
     (one.prefix.log, (before, is.1.1.1.1 ∙ ap (λ (n : ℕ). before ++ entry old.number n is.0 is.1.0 ∷ []) next, reason), begins, refl)
 
 -- and so one that is refused
 pub settled_refused : (index : IndexIn) (old new : Knowledge) (above : ℕ) (one : Unsettled) → one.number ≡ above + 1 → (is : IsUnsettled index old one) → IsPrefix one.prefix.log new.log → is_once new.log ≡ true →
-    outcome_in old.name.config new.log old.number one.number ≡ Refused → (cause : Cause) × IsSubmission (upto above old) (upto (above + 1) new) is.0 is.1.0 (outcomes.Conflict cause.seen cause.range)
+    outcome_in old.name.origin new.log old.number one.number ≡ Refused → (cause : Cause) × IsSubmission (upto above old) (upto (above + 1) new) is.0 is.1.0 (outcomes.Conflict cause.seen cause.range)
 settled_refused index old new above one next is begins once told =
     let before : List Entry = is.1.1.1.0 in
-    let why = refused_so (cause_next old.name.config before is.0) (version_of old.name.config before + 1) (settled_next index old new one Refused is begins once told) in
+    let why = refused_so (cause_next old.name.origin before is.0) (version_of old.name.origin before + 1) (settled_next index old new one Refused is begins once told) in
     (why.0, (one.prefix.log, (before, is.1.1.1.1 ∙ ap (λ (n : ℕ). before ++ entry old.number n is.0 is.1.0 ∷ []) next, why.1), begins, refl))
 
 -- ---- a round that is committed, or comes to nothing
@@ -166,9 +166,9 @@ kept index old a b top p on once le is =
 
 -- ---- the first one that is lost
 
-told_before : (a b : Knowledge) (number : ℕ) (status : SubmissionStatus) → GoesOnFrom a b → outcome_in b.name.config b.log b.number number ≡ status → outcome_in a.name.config b.log a.number number ≡ status
+told_before : (a b : Knowledge) (number : ℕ) (status : SubmissionStatus) → GoesOnFrom a b → outcome_in b.name.origin b.log b.number number ≡ status → outcome_in a.name.origin b.log a.number number ≡ status
 told_before a b number status on is =
-    subst (λ (n : ℕ). outcome_in a.name.config b.log n number ≡ status) on.number (subst (λ (n : Name). outcome_in n.config b.log b.number number ≡ status) on.name is)
+    subst (λ (n : ℕ). outcome_in a.name.origin b.log n number ≡ status) on.number (subst (λ (n : Name). outcome_in n.origin b.log b.number number ≡ status) on.name is)
 
 -- its transaction, as far as its entry tells
 abbrev tx_of : Unsettled → CommitRequest → Trace → OpenTransaction
@@ -185,7 +185,7 @@ refused_open index a b above one on once next is told =
     inr (tx_of one is.0 is.1.0, inr (why.0.seen, (why.0.range, why.1)))
 
 wider : (old b : Knowledge) (n : ℕ) (f : Entry → ℕ) → n ≤ b.last → sum_by f (own_of old (upto n b)) ≤ sum_by f (own_of old b)
-wider old b n f le = sum_wider f old.number old.last n b.last (committed_behind old.name.config [] b.log) le
+wider old b n f le = sum_wider f old.number old.last n b.last (committed_behind old.name.origin [] b.log) le
 
 above_all : (x y z : ℕ) → x ≤ y → y ≤ z → x ≤ z
 above_all x y z p q = omega (arith, p, q)
@@ -284,12 +284,12 @@ rest_none index k above top (one ∷ others) are none turn n low high = by (has_
         absurd (true≢false (sym stands ∙ none))
     by false is = is
 
-module _ (index : IndexIn) (old k : Knowledge) (p : Progress) (is : IsSettledUpto index old k k.last p) (law : IsWellFormedLog k.name.config k.log) where
+module _ (index : IndexIn) (old k : Knowledge) (p : Progress) (is : IsSettledUpto index old k k.last p) (law : IsWellFormedLog k.name.origin k.log) where
   -- what is committed of all its submissions is what is committed of those that are settled
   own_settled : own_of old k ≡ own_of old (upto is.0.above k)
   own_settled =
       let low : is.0.above ≤ k.last = above_le index k is.0.above k.last p.lost.items is.0.lost in
-      own_rest old.name.config old.number old.last is.0.above k.last k.log low
+      own_rest old.name.origin old.number old.last is.0.above k.last k.log low
       (λ n over most. subst (λ (c : ℕ). has_submission c n k.log ≡ false) is.0.follows.number (rest_none index k is.0.above k.last p.lost.items is.0.lost is.1 law.in_turn n over most))
 
   pub built_by : p.marked ≡ true → IsBuilt index old k p.built

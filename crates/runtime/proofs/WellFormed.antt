@@ -6,12 +6,11 @@ use Rattle.std.proofs.Common.{get_or-set_other, get_or-set_same}
 use Rattle.std.proofs.lemmas.Bool.Decides.{nat_tests}
 use Rattle.std.proofs.lemmas.List.Folds.{list_any-append}
 use mathlib.Core.List.{IsPrefix}
-use Rattle.cluster_core.specs.declared.answers.Config.{Config}
+use Rattle.runtime.specs.Origins.{MayBegin, Origin, base_of}
 use Rattle.cluster_core.specs.Configuration.{first_pipeline}
 use Rattle.cluster_core.specs.Decision.{committed, numbered, owners}
-use Rattle.cluster_core.specs.History.{map_at}
+use Rattle.cluster_core.specs.History.{map_over}
 use Rattle.cluster_core.specs.Roles.{PipelineState, all_handled, submit, submitted}
-use Rattle.std.specs.FinMap.{empty}
 use Rattle.kv_core.specs.Map.{Map}
 use Rattle.kv_core.specs.declared.change.CommitRequest.{CommitRequest}
 use Rattle.schedule.specs.Past.{Submission}
@@ -28,8 +27,8 @@ use Rattle.runtime.specs.Traces.{attempts_of, opened}
 use Rattle.runtime.proofs.Entries.{requests_append, map_begins, version_begins, version_next}
 use Rattle.runtime.proofs.Submissions.{in_turn_more}
 
-pub lawful_first : (config : Config) → config.start < 2 ^ 64 → IsWellFormedLog config []
-lawful_first config below = record { submitted = tt; once = refl; in_turn = refl; versions = omega (arith, below) }
+pub lawful_first : (origin : Origin) → MayBegin origin → origin.config.start < 2 ^ 64 → IsWellFormedLog origin []
+lawful_first origin begun below = record { submitted = tt; once = refl; in_turn = refl; versions = omega (arith, below); begun = begun }
 
 -- ---- numbers of submissions
 
@@ -105,10 +104,10 @@ all_again p request =
       forgotten = p.forgotten;
     }
 
-pub pipeline_next : (config : Config) (log : List Entry) (e : Entry) → all_handled (submit e.request (pipeline_of config log)) ≡ pipeline_of config (log ++ e ∷ [])
-pipeline_next config log e =
-    all_again (record (first_pipeline config) { requests = requests_of log }) e.request
-    ∙ ap (λ (qs : List CommitRequest). all_handled (record (first_pipeline config) { requests = qs })) (sym (requests_append log (e ∷ [])))
+pub pipeline_next : (origin : Origin) (log : List Entry) (e : Entry) → all_handled (submit e.request (pipeline_of origin log)) ≡ pipeline_of origin (log ++ e ∷ [])
+pipeline_next origin log e =
+    all_again (record (first_pipeline origin.config) { requests = requests_of log }) e.request
+    ∙ ap (λ (qs : List CommitRequest). all_handled (record (first_pipeline origin.config) { requests = qs })) (sym (requests_append log (e ∷ [])))
 
 -- ---- one entry more
 
@@ -121,35 +120,36 @@ submissions_more last (x ∷ xs) e =
     (submissions_more (last + 1) xs e ∙ ap (λ v. submissions_from (last + 1) xs ++ (record { version = v; client = e.client; transaction = opened e.request e.trace }) ∷ []) n)
 
 -- what was performed over a beginning was performed over the log
-pub open_begins : (config : Config) (log ys : List Entry) (e : Entry) → IsPrefix log ys → IsOpenOver config log e.request e.trace → IsOpenOver config ys e.request e.trace
-open_begins config log ys e p is =
-    open_later (log_map config ys) (version_of config log) (version_of config ys) (opened e.request e.trace) e.request (version_begins config log ys p)
-    (open_elsewhere (log_map config log) (log_map config ys) (version_of config log) (opened e.request e.trace) e.request (λ v h. sym (map_begins config log ys v p h)) is)
+pub open_begins : (origin : Origin) (log ys : List Entry) (e : Entry) → IsPrefix log ys → IsOpenOver origin log e.request e.trace → IsOpenOver origin ys e.request e.trace
+open_begins origin log ys e p is =
+    open_later (log_map origin ys) (version_of origin log) (version_of origin ys) (opened e.request e.trace) e.request (version_begins origin log ys p)
+    (open_elsewhere (log_map origin log) (log_map origin ys) (version_of origin log) (opened e.request e.trace) e.request (λ v h. sym (map_begins origin log ys v p h)) is)
 
-abbrev next_of : Config → List Entry → Entry → Submission
-next_of config log e = record { version = version_of config log + 1; client = e.client; transaction = opened e.request e.trace }
+abbrev next_of : Origin → List Entry → Entry → Submission
+next_of origin log e = record { version = version_of origin log + 1; client = e.client; transaction = opened e.request e.trace }
 
-submitted_next : (config : Config) (log : List Entry) (e : Entry) → IsWellFormedLog config log → IsOpenOver config log e.request e.trace →
-    AreSubmitted (log_map config (log ++ e ∷ [])) (version_of config (log ++ e ∷ [])) config.start (submissions_of config (log ++ e ∷ [])) (requests_of (log ++ e ∷ []))
-submitted_next config log e law is =
-    let next : ℕ = version_of config (log ++ e ∷ []) in
-    let below : version_of config log ≤ next = omega (arith, version_next config log e) in
-    let maps : List CommitRequest → ℕ → Map = λ qs v. map_at (committed config.resolver_splits (numbered config.start qs)) v in
-    let subs : List Submission = submissions_of config log ++ next_of config log e ∷ [] in
-    let base : AreSubmitted (maps (requests_of log ++ e.request ∷ [])) (version_of config log) config.start subs (requests_of log ++ e.request ∷ []) =
-    submitted_more empty (pipeline_of config log) (submissions_of config log) (version_of config log + 1) e.client (opened e.request e.trace) e.request law.submitted (omega arith) refl is in
-    let later : AreSubmitted (maps (requests_of log ++ e.request ∷ [])) next config.start subs (requests_of log ++ e.request ∷ []) =
-    submitted_later (maps (requests_of log ++ e.request ∷ [])) (version_of config log) next config.start subs (requests_of log ++ e.request ∷ []) below base in
-    subst (λ (ss : List Submission). AreSubmitted (log_map config (log ++ e ∷ [])) next config.start ss (requests_of (log ++ e ∷ []))) (sym (submissions_more config.start log e))
-    (subst (λ (qs : List CommitRequest). AreSubmitted (maps qs) next config.start subs qs) (sym (requests_append log (e ∷ []))) later)
+submitted_next : (origin : Origin) (log : List Entry) (e : Entry) → IsWellFormedLog origin log → IsOpenOver origin log e.request e.trace →
+    AreSubmitted (log_map origin (log ++ e ∷ [])) (version_of origin (log ++ e ∷ [])) origin.config.start (submissions_of origin (log ++ e ∷ [])) (requests_of (log ++ e ∷ []))
+submitted_next origin log e law is =
+    let next : ℕ = version_of origin (log ++ e ∷ []) in
+    let below : version_of origin log ≤ next = omega (arith, version_next origin log e) in
+    let maps : List CommitRequest → ℕ → Map = λ qs v. map_over (base_of origin) (committed origin.config.resolver_splits (numbered origin.config.start qs)) v in
+    let subs : List Submission = submissions_of origin log ++ next_of origin log e ∷ [] in
+    let base : AreSubmitted (maps (requests_of log ++ e.request ∷ [])) (version_of origin log) origin.config.start subs (requests_of log ++ e.request ∷ []) =
+    submitted_more (base_of origin) (pipeline_of origin log) (submissions_of origin log) (version_of origin log + 1) e.client (opened e.request e.trace) e.request law.submitted (omega arith) refl is in
+    let later : AreSubmitted (maps (requests_of log ++ e.request ∷ [])) next origin.config.start subs (requests_of log ++ e.request ∷ []) =
+    submitted_later (maps (requests_of log ++ e.request ∷ [])) (version_of origin log) next origin.config.start subs (requests_of log ++ e.request ∷ []) below base in
+    subst (λ (ss : List Submission). AreSubmitted (log_map origin (log ++ e ∷ [])) next origin.config.start ss (requests_of (log ++ e ∷ []))) (sym (submissions_more origin.config.start log e))
+    (subst (λ (qs : List CommitRequest). AreSubmitted (maps qs) next origin.config.start subs qs) (sym (requests_append log (e ∷ []))) later)
 
-pub lawful_next : (config : Config) (last : List ℕ) (log : List Entry) (e : Entry) → IsWellFormedLog config log → IsOpenOver config log e.request e.trace →
-    is_numbered last log ≡ true → slice_index last e.client < e.number → e.number ≡ count_of e.client log + 1 → version_of config log + 1 < 2 ^ 64 → IsWellFormedLog config (log ++ e ∷ [])
-lawful_next config last log e law is num above next room = record {
-  submitted = submitted_next config log e law is;
+pub lawful_next : (origin : Origin) (last : List ℕ) (log : List Entry) (e : Entry) → IsWellFormedLog origin log → IsOpenOver origin log e.request e.trace →
+    is_numbered last log ≡ true → slice_index last e.client < e.number → e.number ≡ count_of e.client log + 1 → version_of origin log + 1 < 2 ^ 64 → IsWellFormedLog origin (log ++ e ∷ [])
+lawful_next origin last log e law is num above next room = record {
+  submitted = submitted_next origin log e law is;
   once = once_more last log e num above law.once;
   in_turn = in_turn_more [] log e law.in_turn next;
-  versions = omega (arith, room, version_next config log e);
+  versions = omega (arith, room, version_next origin log e);
+  begun = law.begun;
 }
 
 -- a number is given that isn't used
@@ -167,22 +167,22 @@ resolved_first : {X : Type 0} (start : ℕ) (xs : List X) → map (λ (_ : ℕ).
 resolved_first start [] = refl
 resolved_first start (x ∷ xs) = let same : start + 0 ≡ start = omega arith in λ i. same i ∷ resolved_first start xs i
 
-pub pipeline_first : (config : Config) → pipeline_of config [] ≡ first_pipeline config
-pipeline_first config =
-    let same : config.start + 0 ≡ config.start = omega arith in
+pub pipeline_first : (origin : Origin) → pipeline_of origin [] ≡ first_pipeline origin.config
+pipeline_first origin =
+    let same : origin.config.start + 0 ≡ origin.config.start = omega arith in
     λ i. record {
-      splits = config.resolver_splits;
-      window = config.window;
-      start = config.start;
+      splits = origin.config.resolver_splits;
+      window = origin.config.window;
+      start = origin.config.start;
       requests = [];
-      resolved = resolved_first config.start (owners config.resolver_splits) i;
-      logged = handled_first config.start config.logs i;
+      resolved = resolved_first origin.config.start (owners origin.config.resolver_splits) i;
+      logged = handled_first origin.config.start origin.config.logs i;
       reported = same i;
       forgotten = 0;
     }
 
 -- a transaction that has done nothing yet
-pub open_first : (config : Config) (log : List Entry) (trace : Trace) → is_store_number trace.store ≡ true → trace.attempts.list ≡ [] → IsOpenOver config log (fresh_request (version_of config log)) trace
-open_first config log trace lawful none =
-    subst (λ (done : List Performed). IsOpenTransaction (log_map config log) (version_of config log) (record { store = trace.store; read_version = version_of config log; attempts = attempts_of done }) (fresh_request (version_of config log))) (sym none)
-    (open_fresh (log_map config log) (version_of config log) trace.store (version_of config log) lawful (omega arith))
+pub open_first : (origin : Origin) (log : List Entry) (trace : Trace) → is_store_number trace.store ≡ true → trace.attempts.list ≡ [] → IsOpenOver origin log (fresh_request (version_of origin log)) trace
+open_first origin log trace lawful none =
+    subst (λ (done : List Performed). IsOpenTransaction (log_map origin log) (version_of origin log) (record { store = trace.store; read_version = version_of origin log; attempts = attempts_of done }) (fresh_request (version_of origin log))) (sym none)
+    (open_fresh (log_map origin log) (version_of origin log) trace.store (version_of origin log) lawful (omega arith))

@@ -7,7 +7,7 @@ use Rattle.std.specs.Str.{bytes_eq}
 use mathlib.Core.List.{IsPrefix}
 use Rattle.kv_core.specs.Range.{KeyRange}
 use Rattle.kv_core.specs.declared.change.CommitRequest.{CommitRequest}
-use Rattle.cluster_core.specs.declared.answers.Config.{Config}
+use Rattle.runtime.specs.Origins.{Origin}
 use Rattle.schedule.specs.Past.{is_accepted}
 use Rattle.schedule.specs.declared.step.Command.{Command}
 use Rattle.schedule.specs.declared.step.Command.TheVariants.{Build, Readable}
@@ -31,19 +31,19 @@ use Rattle.runtime.specs.Submissions.{recent_outcome}
 -- ---- entries of one's own
 
 -- the committed ones of the entries after a log
-abbrev pub committed_behind : Config → List Entry → List Entry → List Entry
-committed_behind config log [] = []
-committed_behind config log (e ∷ es) =
-    (if is_none (cause_next config log e.request) then e ∷ [] else []) ++ committed_behind config (log ++ e ∷ []) es
+abbrev pub committed_behind : Origin → List Entry → List Entry → List Entry
+committed_behind origin log [] = []
+committed_behind origin log (e ∷ es) =
+    (if is_none (cause_next origin log e.request) then e ∷ [] else []) ++ committed_behind origin (log ++ e ∷ []) es
 
 -- the entry is of a client's submission that is numbered above one number, and not above another
 abbrev pub is_numbered_in : ℕ → ℕ → ℕ → Entry → Bool
 is_numbered_in client above upto e = (e.client == client) && (nat_lt above e.number && nat_le e.number upto)
 
 -- the committed entries of a log that are of a client's submissions between these numbers
-abbrev pub own_committed : Config → ℕ → ℕ → ℕ → List Entry → List Entry
-own_committed config client above upto log =
-    filter (is_numbered_in client above upto) (committed_behind config [] log)
+abbrev pub own_committed : Origin → ℕ → ℕ → ℕ → List Entry → List Entry
+own_committed origin client above upto log =
+    filter (is_numbered_in client above upto) (committed_behind origin [] log)
 
 -- ---- what an entry built
 
@@ -89,7 +89,7 @@ has_marked index e =
 -- what a worker built: of the committed entries in its client's log at the end, those of its submissions in between.
 -- One marked the index readable; `steps` counts those that built a part of it, and `records` adds up what they built
 abbrev pub own_of : Knowledge → Knowledge → List Entry
-own_of old new = own_committed old.name.config old.number old.last new.last new.log
+own_of old new = own_committed old.name.origin old.number old.last new.last new.log
 
 pub record IsBuilt (index : IndexIn) (old new : Knowledge) (totals : Totals) : Type 0 where
   pub marked : list_any (has_marked index) (own_of old new) ≡ true
@@ -112,7 +112,7 @@ HasAsked old new = IsPrefix old.log new.log × (new ≡ knows_that old.name new.
 abbrev pub HasForgotten : Knowledge → Knowledge → Type 0
 HasForgotten old new =
     (number : ℕ) × (old.last < number) × (number ≤ new.last)
-    × (recent_outcome new.name.config new.log new.number number ≡ Forgotten)
+    × (recent_outcome new.name.origin new.log new.number number ≡ Forgotten)
 
 -- ---- rounds of a worker
 
@@ -134,7 +134,7 @@ pub record HasWorked (index : IndexIn) (round : Round) (trace : Trace) : Type 0 
 -- Private: a submission came to this, and the client knows its entry
 abbrev pub IsSubmission : Knowledge → Knowledge → CommitRequest → Trace → Outcome → Type 0
 IsSubmission old new request trace outcome =
-    (log : List Entry) × EndsWith old.name.config log (entry old.number (old.last + 1) request trace) outcome
+    (log : List Entry) × EndsWith old.name.origin log (entry old.number (old.last + 1) request trace) outcome
     × IsPrefix log new.log × (new.last ≡ old.last + 1)
 
 -- Private: a commit was told to be one, or the submission was refused, or there was none

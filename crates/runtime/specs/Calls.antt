@@ -25,7 +25,7 @@ pub record HasPerformed (command : Command) (old : Knowledge) (result : Result R
   -- the reply is the serial store's over the transaction's log, or a write limit
   pub answer :
       (open_tx : OpenTransaction) → old.begun ≡ Some open_tx → IfOk result (λ reply.
-      IsAnswer open_tx.prefix.name.config open_tx.prefix.log open_tx.transaction open_tx.trace command reply)
+      IsAnswer open_tx.prefix.name.origin open_tx.prefix.log open_tx.transaction open_tx.trace command reply)
   -- a reply is given in an open transaction
   pub open_then : OnOk result ((open_tx : OpenTransaction) × (old.begun ≡ Some open_tx))
   -- it stands among those that were performed

@@ -27,7 +27,7 @@ knows_that name log number last begun =
 -- a transaction in a store at the end of a log, which has done nothing yet
 pub record IsFresh (name : Name) (log : List Entry) (number : ℕ) (open_tx : OpenTransaction) : Type 0 where
   pub over : open_tx.prefix ≡ log_prefix name log
-  pub request : open_tx.transaction ≡ fresh_request (version_of name.config log)
+  pub request : open_tx.transaction ≡ fresh_request (version_of name.origin log)
   pub store : open_tx.trace.store ≡ number
   pub attempts : open_tx.trace.attempts.list ≡ []
 
@@ -42,14 +42,14 @@ pub record IsSameTransaction (old new : OpenTransaction) : Type 0 where
 abbrev pub IsBegun : Prefix → Option OpenTransaction → Type 0
 IsBegun me (Some open_tx) =
     (open_tx.prefix.name ≡ me.name) × IsPrefix open_tx.prefix.log me.log
-    × IsOpenOver open_tx.prefix.name.config open_tx.prefix.log open_tx.transaction open_tx.trace
-    × (open_tx.transaction.read_version ≡ version_of open_tx.prefix.name.config open_tx.prefix.log)
+    × IsOpenOver open_tx.prefix.name.origin open_tx.prefix.log open_tx.transaction open_tx.trace
+    × (open_tx.transaction.read_version ≡ version_of open_tx.prefix.name.origin open_tx.prefix.log)
 IsBegun me None = Unit {0}
 
 -- Private: a store that is known stands in the open transaction, over the maps of its log
 abbrev pub IsKnownIn : Option OpenTransaction → Option Opened → Type 0
 IsKnownIn (Some open_tx) known =
-    IsKnown open_tx.trace.store (log_map open_tx.prefix.name.config open_tx.prefix.log) known open_tx.transaction
+    IsKnown open_tx.trace.store (log_map open_tx.prefix.name.origin open_tx.prefix.log) known open_tx.transaction
 IsKnownIn None known = Unit {0}
 
 -- Private: the client's log begins with the log that its reader saw last, which is of the client's database

@@ -37,21 +37,21 @@ IsRecorded name log due =
 
 -- Private: how far the pipeline is, and what leads on from the log
 abbrev pub IsInFlight : Name → List Entry → PipelineState → InFlight → Type 0
-IsInFlight name log p Idle = p ≡ pipeline_of name.config log
+IsInFlight name log p Idle = p ≡ pipeline_of name.origin log
 IsInFlight name log p (Unreported due) =
     IsUnfinished p
-    × (all_handled p ≡ pipeline_of name.config (log ++ submitted_entry due.submitted ∷ []))
+    × (all_handled p ≡ pipeline_of name.origin (log ++ submitted_entry due.submitted ∷ []))
     × (due.mutations ≡ due.submitted.request.value.mutations)
-    × IsWellFormedLog name.config (log ++ submitted_entry due.submitted ∷ [])
+    × IsWellFormedLog name.origin (log ++ submitted_entry due.submitted ∷ [])
     × IsRecorded name log due
 IsInFlight name log p (Decided due version) =
-    (p ≡ pipeline_of name.config (log ++ submitted_entry due.submitted ∷ []))
-    × (due.mutations ≡ logged_next name.config log due.submitted.request.value)
-    × (version ≡ version_next name.config log due.submitted.request.value)
-    × IsWellFormedLog name.config (log ++ submitted_entry due.submitted ∷ [])
+    (p ≡ pipeline_of name.origin (log ++ submitted_entry due.submitted ∷ []))
+    × (due.mutations ≡ logged_next name.origin log due.submitted.request.value)
+    × (version ≡ version_next name.origin log due.submitted.request.value)
+    × IsWellFormedLog name.origin (log ++ submitted_entry due.submitted ∷ [])
     × IsRecorded name log due
 IsInFlight name log p (Added step) =
-    (p ≡ pipeline_of name.config (log ++ submitted_entry step.submitted ∷ [])) × Leads name log step
+    (p ≡ pipeline_of name.origin (log ++ submitted_entry step.submitted ∷ [])) × Leads name log step
 
 -- the locked state: which database it is, the published log, the log of all entries that were added, that log once what
 -- is in flight is finished, and the last submission number of each client
@@ -97,7 +97,7 @@ pub record IsHandled (old new : CommitView) (e : Entry) (outcome : Outcome) : Ty
   pub name : new.name ≡ old.name
   pub published : new.published ≡ old.published
   pub waiting : IsOneDue old.log old.due
-  pub reason : IsReason old.name.config old.due e outcome
+  pub reason : IsReason old.name.origin old.due e outcome
   pub earlier : HasEarlier old.due e
   pub numbers : GivesOne old.last new.last e outcome
   pub added : Adds old new e outcome

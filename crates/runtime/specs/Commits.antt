@@ -35,7 +35,7 @@ told_outcome Closed = outcomes.Memory
 -- was given
 pub record Learns (old new : Knowledge) (request : CommitRequest) (trace : Trace) (outcome : Outcome)
     (log : List Entry) : Type 0 where
-  pub shows : Shows old.name.config log (entry old.number (old.last + 1) request trace) outcome
+  pub shows : Shows old.name.origin log (entry old.number (old.last + 1) request trace) outcome
   pub known : IsPrefix log new.log
   pub last : new.last ≡ last_then old.last outcome
 

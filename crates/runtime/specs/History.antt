@@ -1,7 +1,7 @@
 -- The rule of a history, and what its steps tell. The history is the log of entries, in version order.
 use Rattle.std.specs.Prelude.{ℕ, ◌≡◌, ◌==◌, Bool, true, List, [], ◌∷◌, ◌++◌, length, MatchBool}
 use Rattle.logbook.specs.Pages.{Cell, Step, View, Book, Named}
-use Rattle.cluster_core.specs.declared.answers.Config.{Config}
+use Rattle.runtime.specs.Origins.{Origin}
 use Rattle.runtime.specs.declared.log_entry.Entry.{Entry}
 use Rattle.runtime.specs.declared.log_entry.Submitted.{Submitted}
 
@@ -27,14 +27,14 @@ head_of book = record { tracked = true; key = 0; book = book }
 abbrev pub Adds : Step Entry → View Entry ℕ → ℕ → View Entry ℕ → Type 0
 Adds s v found w = MatchBool (found == s.old) (w.0 ≡ v.0 ++ s.ask ∷ []) (length w.0 ≡ found)
 
--- which database it is: its book, its configuration, and whether what is committed in it is kept
+-- which database it is: its book, what it began with, and whether what is committed in it is kept
 pub record Name : Type 0 where
   pub book : Book
-  pub config : Config
+  pub origin : Origin
   pub kept : Bool
 
-abbrev pub database_name : Book → Config → Bool → Name
-database_name book config kept = record { book = book; config = config; kept = kept }
+abbrev pub database_name : Book → Origin → Bool → Name
+database_name book origin kept = record { book = book; origin = origin; kept = kept }
 
 -- a beginning of the history of one database, which some thread has seen
 pub record Prefix : Type 0 where

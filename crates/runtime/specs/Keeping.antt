@@ -1,7 +1,7 @@
 -- What a commit log keeps of the log of a database, and what of it is on the disk beside the locked state.
 use Rattle.std.specs.Prelude.{◌≡◌, ◌⊎◌, ℕ, ◌+◌, Bool, true, false, is_none, if◌then◌else◌, List, [], ◌∷◌, ◌++◌, ⊤}
 use mathlib.Core.List.{IsPrefix}
-use Rattle.cluster_core.specs.declared.answers.Config.{Config}
+use Rattle.runtime.specs.Origins.{Origin}
 use Rattle.command_log.specs.declared.change.Change.{Change}
 use Rattle.command_log.specs.declared.entry.Entry.{Entry as KeptEntry}
 use Rattle.runtime.specs.declared.keeping.Keeping.{Keeping}
@@ -27,18 +27,18 @@ abbrev pub kept_at : ℕ → Entry → KeptEntry
 kept_at version e = kept_entry version e.client e.number e.trace.store (changes_of e.trace.attempts.list)
 
 -- of an entry that comes next after a log: nothing where it is refused
-abbrev pub kept_next : Config → List Entry → Entry → List KeptEntry
-kept_next config log e =
-    if is_none (cause_next config log e.request) then kept_at (version_of config log + 1) e ∷ [] else []
+abbrev pub kept_next : Origin → List Entry → Entry → List KeptEntry
+kept_next origin log e =
+    if is_none (cause_next origin log e.request) then kept_at (version_of origin log + 1) e ∷ [] else []
 
 -- of the entries after a log, in their order
-abbrev pub kept_beyond : Config → List Entry → List Entry → List KeptEntry
-kept_beyond config log [] = []
-kept_beyond config log (e ∷ es) = kept_next config log e ++ kept_beyond config (log ++ e ∷ []) es
+abbrev pub kept_beyond : Origin → List Entry → List Entry → List KeptEntry
+kept_beyond origin log [] = []
+kept_beyond origin log (e ∷ es) = kept_next origin log e ++ kept_beyond origin (log ++ e ∷ []) es
 
--- KEPT: of all entries of a log
-abbrev pub kept_of : Config → List Entry → List KeptEntry
-kept_of config log = kept_beyond config [] log
+-- KEPT: the entries that a database goes on from, and then what is kept of all entries of a log
+abbrev pub kept_of : Origin → List Entry → List KeptEntry
+kept_of origin log = origin.before ++ kept_beyond origin [] log
 
 -- ---- what a crash leaves
 
@@ -49,9 +49,9 @@ IsBatchOrNone is_log entries batch file = is_log file entries ⊎ is_log file (e
 
 -- SAFE: each crash leaves what is kept of all entries of this log, and maybe more after it
 abbrev pub IsSafe :
-    {E : Type 0} → (E → List ℕ → Type 0) → (List ℕ → List KeptEntry → Type 0) → Config → List Entry → E → Type 0
-IsSafe may_leave is_log config log end =
-    (file : List ℕ) → may_leave end file → (more : List KeptEntry) × is_log file (kept_of config log ++ more)
+    {E : Type 0} → (E → List ℕ → Type 0) → (List ℕ → List KeptEntry → Type 0) → Origin → List Entry → E → Type 0
+IsSafe may_leave is_log origin log end =
+    (file : List ℕ) → may_leave end file → (more : List KeptEntry) × is_log file (kept_of origin log ++ more)
 
 -- ---- the locked state
 
@@ -86,8 +86,8 @@ pub record IsOn {E : Type 0} (has : E → List KeptEntry → Type 0) (state : Co
   pub rest : List Entry
   pub begins : IsPrefix state.published stored
   pub log : state.log ≡ stored ++ rest
-  pub kept : has end (kept_of state.name.config stored)
-  pub waits : waiting ≡ kept_beyond state.name.config stored rest
+  pub kept : has end (kept_of state.name.origin stored)
+  pub waits : waiting ≡ kept_beyond state.name.origin stored rest
   pub idle : state.due ≡ state.log
 
 -- Private: what is on the disk beside a state. Once no more entries are kept, each crash leaves what is kept of those
@@ -97,7 +97,7 @@ abbrev pub IsOnDisk :
     Keeping → CommitView → List KeptEntry → E → Type 0
 IsOnDisk has may_leave is_log Off state waiting end = ⊤
 IsOnDisk has may_leave is_log On state waiting end = IsOn has state waiting end
-IsOnDisk has may_leave is_log Closed state waiting end = IsSafe may_leave is_log state.name.config state.published end
+IsOnDisk has may_leave is_log Closed state waiting end = IsSafe may_leave is_log state.name.origin state.published end
 
 -- Private: a database whose entries are kept stays one, and so much of them is on the disk
 abbrev pub Keeps :
@@ -111,7 +111,7 @@ Keeps has may_leave is_log keeping state waiting end =
 abbrev pub IsStored :
     {E : Type 0} → (E → List ℕ → Type 0) → (List ℕ → List KeptEntry → Type 0) → Prefix → Type 0
 IsStored {E} may_leave is_log prefix =
-    prefix.name.kept ≡ true → (end : E) × IsSafe may_leave is_log prefix.name.config prefix.log end
+    prefix.name.kept ≡ true → (end : E) × IsSafe may_leave is_log prefix.name.origin prefix.log end
 
 -- ---- one request
 

@@ -3,7 +3,7 @@
 use Rattle.std.specs.Prelude.{◌≡◌, ℕ, ◌+◌, ◌-◌, ◌<◌, Bool, true, false, List, [], ◌∷◌, ◌++◌}
 use Rattle.std.specs.Prelude.{Option, Some, None, length, slice_index, slice_set, if◌then◌else◌}
 use Rattle.kv_core.specs.declared.change.CommitRequest.{CommitRequest}
-use Rattle.cluster_core.specs.declared.answers.Config.{Config}
+use Rattle.runtime.specs.Origins.{Origin}
 use Rattle.cluster_core.specs.declared.answers.Reported.{Reported}
 use Rattle.cluster_core.specs.declared.answers.Reported.TheVariants as reported
 use Rattle.cluster_core.specs.Decision.{Cause}
@@ -49,20 +49,20 @@ abbrev pub last_then : ℕ → Outcome → ℕ
 last_then last outcome = if gives_number outcome then last + 1 else last
 
 -- why: by the log to which its entry comes next. Nothing is said of `Unknown` and `Memory`
-abbrev pub IsReason : Config → List Entry → Entry → Outcome → Type 0
-IsReason config log e (Committed version) =
-    decided (cause_next config log e.request) (version_of config log + 1) ≡ Committed version
-IsReason config log e (Conflict seen range) =
-    decided (cause_next config log e.request) (version_of config log + 1) ≡ Conflict seen range
-IsReason config log e TooOld = config.window < version_of config log - e.request.read_version
-IsReason config log e VersionsExhausted = IsExhausted config log e
-IsReason config log e Unknown = Unit {0}
-IsReason config log e Memory = Unit {0}
+abbrev pub IsReason : Origin → List Entry → Entry → Outcome → Type 0
+IsReason origin log e (Committed version) =
+    decided (cause_next origin log e.request) (version_of origin log + 1) ≡ Committed version
+IsReason origin log e (Conflict seen range) =
+    decided (cause_next origin log e.request) (version_of origin log + 1) ≡ Conflict seen range
+IsReason origin log e TooOld = origin.config.window < version_of origin log - e.request.read_version
+IsReason origin log e VersionsExhausted = IsExhausted origin log e
+IsReason origin log e Unknown = Unit {0}
+IsReason origin log e Memory = Unit {0}
 
 -- the log ends with the entry, which came to this
-abbrev pub EndsWith : Config → List Entry → Entry → Outcome → Type 0
-EndsWith config log e outcome =
-    (before : List Entry) × (log ≡ before ++ e ∷ []) × IsReason config before e outcome
+abbrev pub EndsWith : Origin → List Entry → Entry → Outcome → Type 0
+EndsWith origin log e outcome =
+    (before : List Entry) × (log ≡ before ++ e ∷ []) × IsReason origin before e outcome
 
 -- the log is of this database, and ends with the entry
 abbrev pub IsEndOf : Name → Entry → Prefix → Type 0
@@ -70,13 +70,13 @@ IsEndOf name e prefix = (prefix.name ≡ name) × ((before : List Entry) × (pre
 
 -- the log shows the outcome: it ends with the entry where that was decided, and else it is the reason; and it has each
 -- earlier submission of the entry's client
-abbrev pub Shows : Config → List Entry → Entry → Outcome → Type 0
-Shows config log e (Committed version) = EndsWith config log e (Committed version) × HasEarlier log e
-Shows config log e (Conflict seen range) = EndsWith config log e (Conflict seen range) × HasEarlier log e
-Shows config log e TooOld = IsReason config log e TooOld × HasEarlier log e
-Shows config log e VersionsExhausted = IsReason config log e VersionsExhausted × HasEarlier log e
-Shows config log e Unknown = Unit {0}
-Shows config log e Memory = Unit {0}
+abbrev pub Shows : Origin → List Entry → Entry → Outcome → Type 0
+Shows origin log e (Committed version) = EndsWith origin log e (Committed version) × HasEarlier log e
+Shows origin log e (Conflict seen range) = EndsWith origin log e (Conflict seen range) × HasEarlier log e
+Shows origin log e TooOld = IsReason origin log e TooOld × HasEarlier log e
+Shows origin log e VersionsExhausted = IsReason origin log e VersionsExhausted × HasEarlier log e
+Shows origin log e Unknown = Unit {0}
+Shows origin log e Memory = Unit {0}
 
 -- the entry's number is given to its client, whose next one it is
 abbrev pub GivesNext : List ℕ → List ℕ → Entry → Type 0

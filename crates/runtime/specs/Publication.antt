@@ -8,14 +8,14 @@ use Rattle.runtime.specs.declared.log_entry.Entry.{Entry}
 use Rattle.runtime.specs.declared.published.Published.{Published}
 use Rattle.runtime.specs.declared.published.Step.{Step}
 use Rattle.runtime.specs.declared.published.View.{View}
-use Rattle.runtime.specs.LogConfigs.{no_config}
+use Rattle.runtime.specs.Origins.{no_config, origin_of}
 use Rattle.runtime.specs.Logs.{log_tier, logged_next}
 use Rattle.runtime.specs.Submissions.{Recent, outcomes_of, version_next, with_outcome}
 use Rattle.runtime.specs.History.{Name, Prefix, database_name, log_prefix, submitted_entry}
 
 -- Private: a name in the place of one that isn't known yet
 abbrev pub no_name : Name
-no_name = database_name (record { number = 0; log_name = 0; cells_name = 0 }) no_config false
+no_name = database_name (record { number = 0; log_name = 0; cells_name = 0 }) (origin_of no_config []) false
 
 -- Private: the view of a thread that hasn't seen the state
 abbrev pub newcomer : View
@@ -40,7 +40,7 @@ IsLater old new = (new.name ≡ old.name) × IsPrefix old.log new.log
 -- Private: the servers have pulled just the published log, and the outcomes are those of its entries
 abbrev pub IsFold : Published → Type 0
 IsFold x =
-    (x.tier ≡ log_tier x.prefix.name.config x.prefix.log) × (x.recent ≡ outcomes_of x.prefix.name.config x.prefix.log)
+    (x.tier ≡ log_tier x.prefix.name.origin x.prefix.log) × (x.recent ≡ outcomes_of x.prefix.name.origin x.prefix.log)
 
 -- Private: both are of just the log, which begins with each log that a thread saw last
 abbrev pub Kept : Published → List View → Type 0
@@ -57,8 +57,8 @@ Sees v x y w = (w ≡ has_seen y.prefix) × IsFold y × (v.named ≡ true → Is
 abbrev pub Leads : Name → List Entry → Step → Type 0
 Leads name log step =
     (step.prefix ≡ log_prefix name (log ++ submitted_entry step.submitted ∷ []))
-    × (step.mutations ≡ logged_next name.config log step.submitted.request.value)
-    × (step.version ≡ version_next name.config log step.submitted.request.value)
+    × (step.mutations ≡ logged_next name.origin log step.submitted.request.value)
+    × (step.version ≡ version_next name.origin log step.submitted.request.value)
 
 -- Private: the steps after a log lead on from it, one after another
 abbrev pub LeadOn : Name → List Entry → List Step → Type 0

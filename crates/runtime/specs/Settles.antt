@@ -92,16 +92,16 @@ Overflows built Marked = ⊥
 abbrev pub TellsOne : Knowledge → Unsettled → Option Bool → Type 0
 TellsOne now one (Some true) =
     IsPrefix one.prefix.log now.log
-    × ((version : ℕ) × (outcome_in now.name.config now.log now.number one.number ≡ statuses.Committed version))
+    × ((version : ℕ) × (outcome_in now.name.origin now.log now.number one.number ≡ statuses.Committed version))
 TellsOne now one (Some false) =
     IsPrefix one.prefix.log now.log
-    × (outcome_in now.name.config now.log now.number one.number ≡ statuses.Refused)
+    × (outcome_in now.name.origin now.log now.number one.number ≡ statuses.Refused)
 TellsOne now one None = has_submission now.number one.number now.log ≡ false
 
 -- why nothing is told of it
 abbrev pub IsWithheld : Knowledge → ℕ → RunError → Type 0
 IsWithheld now number (Refused error) = error ≡ NotEntered
-IsWithheld now number GaveUp = recent_outcome now.name.config now.log now.number number ≡ statuses.Forgotten
+IsWithheld now number GaveUp = recent_outcome now.name.origin now.log now.number number ≡ statuses.Forgotten
 
 -- why asking ends the work
 abbrev pub AskingEnds : IndexIn → Knowledge → Knowledge → RunError → Type 0

@@ -2,7 +2,7 @@
 use Rattle.std.specs.Prelude.{ℕ, ◌+◌, ◌-◌, ◌*◌, ◌%◌, ◌&&◌, ◌||◌, ◌==◌, nat_le, nat_lt, is_none, if◌then◌else◌}
 use Rattle.std.specs.Prelude.{List, [], ◌∷◌, ◌++◌, replicate, slice_index, slice_set}
 use Rattle.kv_core.specs.declared.change.CommitRequest.{CommitRequest}
-use Rattle.cluster_core.specs.declared.answers.Config.{Config}
+use Rattle.runtime.specs.Origins.{Origin}
 use Rattle.runtime.specs.declared.log_entry.Entry.{Entry}
 use Rattle.runtime.specs.declared.recent_outcomes.TheConstants.{KEPT_OUTCOMES}
 use Rattle.runtime.specs.declared.submission_status.SubmissionStatus.{SubmissionStatus}
@@ -13,37 +13,37 @@ use Rattle.runtime.specs.Logs.{cause_next, count_of, version_of}
 -- ---- by the log
 
 -- what becomes of a submission whose request comes next
-abbrev pub status_next : Config → List Entry → CommitRequest → SubmissionStatus
-status_next config log request =
-    if is_none (cause_next config log request) then Committed (version_of config log + 1) else Refused
+abbrev pub status_next : Origin → List Entry → CommitRequest → SubmissionStatus
+status_next origin log request =
+    if is_none (cause_next origin log request) then Committed (version_of origin log + 1) else Refused
 
 -- in the entries after a log: what became of a client's submission of this number, Pending where none of them is it
-abbrev pub status_after : Config → List Entry → List Entry → ℕ → ℕ → SubmissionStatus
-status_after config log [] client number = Pending
-status_after config log (e ∷ es) client number =
+abbrev pub status_after : Origin → List Entry → List Entry → ℕ → ℕ → SubmissionStatus
+status_after origin log [] client number = Pending
+status_after origin log (e ∷ es) client number =
     if (e.client == client) && (e.number == number)
-    then status_next config log e.request
-    else status_after config (log ++ e ∷ []) es client number
+    then status_next origin log e.request
+    else status_after origin (log ++ e ∷ []) es client number
 
 -- in a log: it is committed at a version, refused, or not there yet
-abbrev pub outcome_in : Config → List Entry → ℕ → ℕ → SubmissionStatus
-outcome_in config log client number = status_after config [] log client number
+abbrev pub outcome_in : Origin → List Entry → ℕ → ℕ → SubmissionStatus
+outcome_in origin log client number = status_after origin [] log client number
 
 -- the same of a client's last KEPT_OUTCOMES submissions in the log; those before them are Forgotten
-abbrev pub recent_outcome : Config → List Entry → ℕ → ℕ → SubmissionStatus
-recent_outcome config log client number =
-    if nat_le (number + KEPT_OUTCOMES) (count_of client log) then Forgotten else outcome_in config log client number
+abbrev pub recent_outcome : Origin → List Entry → ℕ → ℕ → SubmissionStatus
+recent_outcome origin log client number =
+    if nat_le (number + KEPT_OUTCOMES) (count_of client log) then Forgotten else outcome_in origin log client number
 
 -- what a client is told of a number by a log, where this is the last number that it was given: each number has its case
-abbrev pub told_status : Config → List Entry → ℕ → ℕ → ℕ → SubmissionStatus
-told_status config log client last number =
-    if (number == 0) || nat_lt last number then NotSubmitted else recent_outcome config log client number
+abbrev pub told_status : Origin → List Entry → ℕ → ℕ → ℕ → SubmissionStatus
+told_status origin log client last number =
+    if (number == 0) || nat_lt last number then NotSubmitted else recent_outcome origin log client number
 
 -- ---- as it is kept
 
 -- Private: the version of a submission whose request comes next, or 0 where it is refused: no entry has version 0
-abbrev pub version_next : Config → List Entry → CommitRequest → ℕ
-version_next config log request = if is_none (cause_next config log request) then version_of config log + 1 else 0
+abbrev pub version_next : Origin → List Entry → CommitRequest → ℕ
+version_next origin log request = if is_none (cause_next origin log request) then version_of origin log + 1 else 0
 
 -- Private: how many submissions of each client were added, and the versions of the last KEPT_OUTCOMES of them
 pub record Recent : Type 0 where
@@ -69,14 +69,14 @@ abbrev pub nothing_kept : ℕ → Recent
 nothing_kept clients = recent (replicate clients 0) (replicate (clients * KEPT_OUTCOMES) 0)
 
 -- Private: with those of the entries after a log
-abbrev pub recent_after : Config → List Entry → List Entry → Recent → Recent
-recent_after config log [] kept = kept
-recent_after config log (e ∷ es) kept =
-    recent_after config (log ++ e ∷ []) es (with_outcome kept e.client (version_next config log e.request))
+abbrev pub recent_after : Origin → List Entry → List Entry → Recent → Recent
+recent_after origin log [] kept = kept
+recent_after origin log (e ∷ es) kept =
+    recent_after origin (log ++ e ∷ []) es (with_outcome kept e.client (version_next origin log e.request))
 
 -- Private: with those of a log
-abbrev pub outcomes_of : Config → List Entry → Recent
-outcomes_of config log = recent_after config [] log (nothing_kept config.places)
+abbrev pub outcomes_of : Origin → List Entry → Recent
+outcomes_of origin log = recent_after origin [] log (nothing_kept origin.config.places)
 
 -- Private: what became of a submission that has this version
 abbrev pub status_by : ℕ → SubmissionStatus

@@ -59,10 +59,12 @@ impl<E: End> Model for Client<E> {
     ghost use Rattle.std.specs.Coded.{codes};
     ghost use Rattle.runtime.specs.contracts.log_entry.Entry as entries;
     ghost use Rattle.runtime.specs.contracts.open_transaction.OpenTransaction as works;
+    ghost use Rattle.command_log.specs.contracts.entry.Entry as kept_entries;
 
     ghost Value = { Knowledge };
 
-    ghost coded = { Prim.hlevel (codes, entries.the_row.coded, works.the_row.coded) };
+    ghost coded = { Prim.hlevel
+        (codes, entries.the_row.coded, works.the_row.coded, kept_entries.the_row.coded) };
 
     ghost view = { λ c. knows_that c.me.name c.me.log c.number c.last c.begun };
 
@@ -74,7 +76,7 @@ impl<E: End> Model for Client<E> {
         × IsBegun c.me c.begun
         × (c.key.me.0.client ≡ Some c.number)
         × (c.key.me.0.last ≡ c.last)
-        × (c.number < c.me.name.config.places)
+        × (c.number < c.me.name.origin.config.places)
         × IsKnownIn c.begun c.known.store };
 }
 
@@ -92,7 +94,7 @@ impl<E: End> Client<E> {
             × (key.me.0.about.value.state.name ≡ me.name) × (key.me.0.client ≡ Some number)
             × (key.me.0.last ≡ 0) }
         requires reader { knowledge reader.place ≡ knows me.name }
-        requires number { number < me.name.config.places }
+        requires number { number < me.name.origin.config.places }
         ensures { result ≡ knows_that me.name me.log number 0 None }
     {
         Client {
@@ -112,7 +114,7 @@ impl<E: End> Client<E> {
     /// one. It takes no memory.
     pub fn submissions(&self) -> u64
         ensures number { result ≡ self.now.last }
-        ensures well_formed { IsWellFormedLog self.now.name.config self.now.log }
+        ensures well_formed { IsWellFormedLog self.now.name.origin self.now.log }
     {
         let last = self.last;
         self.me.len();
@@ -127,7 +129,7 @@ impl<E: End> Client<E> {
     /// it. Any other number is `NotSubmitted`.
     pub fn outcome(&mut self, number: u64) -> Result<SubmissionStatus, EnterError>
         ensures outcome { IfOk result (λ status. status
-            ≡ told_status self.new.name.config self.new.log self.old.number self.old.last number) }
+            ≡ told_status self.new.name.origin self.new.log self.old.number self.old.last number) }
         ensures log { IsPrefix self.old.log self.new.log }
         ensures same { self.new
             ≡ knows_that self.old.name self.new.log self.old.number self.old.last self.old.begun }
@@ -168,7 +170,7 @@ impl<E: End> Client<E> {
     /// So it is of the client's own log where the published one begins with that.
     pub fn look_at_log<R: Wait>(&mut self, rt: &R) -> Option<(Snapshot<E>, LogPrefix)>
         ensures kept { MatchOption result (self.old.name.kept ≡ false) (λ seen.
-            (seen.1.name ≡ self.old.name) × IsSafe E.may_leave E.is_log self.old.name.config
+            (seen.1.name ≡ self.old.name) × IsSafe E.may_leave E.is_log self.old.name.origin
             seen.1.log seen.0.value) }
         ensures same { self.new ≡ self.old }
     {
@@ -213,7 +215,7 @@ impl<E: End> Client<E> {
             ≡ knows_that self.old.name self.new.log self.old.number self.old.last self.new.begun }
         ensures log { IsPrefix self.old.log self.new.log }
         ensures answer { (open_tx : _) → self.old.begun ≡ Some open_tx → IfOk result (λ reply.
-            IsAnswer open_tx.prefix.name.config open_tx.prefix.log
+            IsAnswer open_tx.prefix.name.origin open_tx.prefix.log
             open_tx.transaction open_tx.trace command.now reply) }
         ensures open_then { OnOk result ((open_tx : _) × (self.old.begun ≡ Some open_tx)) }
         ensures grown { (open_tx : _) → self.old.begun ≡ Some open_tx → IfOk result (λ reply.

@@ -1,6 +1,5 @@
-// The commit side, under the commit lock: one request at a time, which the pipeline orders, the
-// history records and the publisher shows. Made by `db`, used by `handing_in` and `group_commit`.
-ghost use Rattle.std.specs.Prelude.{◌≡◌, ℕ, ◌+◌, ◌-◌, ◌^◌, ◌<◌, [], length, slice_index};
+// The commit side under the lock, a request at a time. Used by `db`, `handing_in`, `group_commit`.
+ghost use Rattle.std.specs.Prelude.{◌≡◌, ℕ, ◌+◌, ◌-◌, ◌^◌, ◌<◌, ◌≤◌, [], length, slice_index};
 ghost use Rattle.std.specs.Prelude.{IfOk, IfErr, IfSome, IsNone, MatchResult, OnOk, Some, Err, ◌⊎◌};
 ghost use Rattle.std.specs.Bool.{OnTrue, OnFalse};
 ghost use Rattle.left_right.specs.Sides.{view as knowledge};
@@ -9,9 +8,12 @@ ghost use Rattle.cluster_core.specs.Roles.{told};
 ghost use Rattle.runtime.specs.CommitStates.{IsHandled, IsOneDue, LeavesEntry, commit_view};
 ghost use Rattle.runtime.specs.History.{log_prefix};
 ghost use Rattle.runtime.specs.Logs.{AreGiven, HasEarlier, IsOpenOver, cause_next, version_of};
+ghost use Rattle.replay.specs.Replaying.{IsLogged};
+ghost use Rattle.runtime.specs.Origins.{origin_of};
 ghost use Rattle.runtime.specs.Outcomes.{GivesNext, IsEndOf, next_entry};
 ghost use Rattle.runtime.specs.Publication.{knows};
 
+use crate::base::Base;
 use crate::in_flight::{Due, InFlight, added, decided, recorded, report};
 use crate::log_entry::{RequestView, Submitted};
 use crate::log_prefix::{LogHead, LogPrefix, again};
@@ -46,28 +48,24 @@ impl Model for CommitState {
     ghost use Rattle.cluster_core.specs.Roles.{whole};
     ghost use Rattle.runtime.specs.CommitStates.{CommitView, commit_view, due_of, IsInFlight};
     ghost use Rattle.std.specs.Coded.{codes};
+    ghost use Rattle.command_log.specs.contracts.entry.Entry as kept_entries;
     ghost use Rattle.runtime.specs.contracts.log_entry.Entry as entries;
 
     ghost Value = { CommitView };
 
-    ghost coded = { Prim.hlevel (codes, entries.the_row.coded) };
+    ghost coded = { Prim.hlevel (codes, entries.the_row.coded, kept_entries.the_row.coded) };
 
     ghost view = { λ h.
-        commit_view h.publisher.name h.publisher.published
-        (h.publisher.published ++ h.publisher.pending)
-        (due_of h.in_flight (h.publisher.published ++ h.publisher.pending)) h.last.items };
+        let log = h.publisher.published ++ h.publisher.pending in
+        commit_view h.publisher.name h.publisher.published log (due_of h.in_flight log) h.last.items };
 
     ghost invariant = { λ h.
-        (h.head ≡ h.publisher.name.book)
-        × (h.prefix ≡ log_prefix h.publisher.name (h.publisher.published ++ h.publisher.pending))
-        × IsInFlight h.publisher.name (h.publisher.published ++ h.publisher.pending)
-        (whole h.pipeline) h.in_flight
-        × (is_numbered h.last.items
-        (due_of h.in_flight (h.publisher.published ++ h.publisher.pending)) ≡ true)
-        × AreGiven h.last.items
-        (due_of h.in_flight (h.publisher.published ++ h.publisher.pending))
-        × AreCounted h.last.items
-        (due_of h.in_flight (h.publisher.published ++ h.publisher.pending)) };
+        let log = h.publisher.published ++ h.publisher.pending in
+        (h.head ≡ h.publisher.name.book) × (h.prefix ≡ log_prefix h.publisher.name log)
+        × IsInFlight h.publisher.name log (whole h.pipeline) h.in_flight
+        × (is_numbered h.last.items (due_of h.in_flight log) ≡ true)
+        × AreGiven h.last.items (due_of h.in_flight log)
+        × AreCounted h.last.items (due_of h.in_flight log) };
 }
 
 impl CommitState {
@@ -196,12 +194,12 @@ impl CommitState {
         trace: Trace,
     ) -> Result<Reported, Outcome>
         requires name { prefix.now.name ≡ self.old.name }
-        requires open { IsOpenOver self.old.name.config prefix.now.log request trace }
+        requires open { IsOpenOver self.old.name.origin prefix.now.log request trace }
         requires waiting { IsOneDue self.old.log self.old.due }
         requires earlier { HasEarlier self.old.due (next_entry self.old.last client request trace) }
         ensures told { IfOk result (λ reported.
-            reported ≡ told (cause_next self.old.name.config self.old.due request)
-            (version_of self.old.name.config self.old.due + 1)) }
+            reported ≡ told (cause_next self.old.name.origin self.old.due request)
+            (version_of self.old.name.origin self.old.due + 1)) }
         ensures numbers { OnOk result (GivesNext self.old.last self.new.last
             (next_entry self.old.last client request trace)) }
         ensures taken { OnOk result (
@@ -261,7 +259,7 @@ impl CommitState {
         trace: Trace,
     ) -> HandedIn
         requires name { prefix.now.name ≡ self.old.name }
-        requires open { IsOpenOver self.old.name.config prefix.now.log request trace }
+        requires open { IsOpenOver self.old.name.origin prefix.now.log request trace }
         ensures handled { IsHandled self.old self.new
             (next_entry self.old.last client request trace) result.outcome }
         ensures due { IfSome result.due (IsEndOf self.old.name
@@ -363,19 +361,22 @@ impl CommitState {
         publisher.close(rt);
     }
 
-    /// The state of a new database without entries, for as many clients as the configuration has
-    /// places, in which what is committed is kept, or isn't; refused as by `Pipeline::new`.
+    /// The state of a database that goes on from this and has no entry yet, for as many clients as
+    /// there are places, in which what is committed is kept or isn't. Refused as by `Pipeline::new`.
     pub fn open<R: Wait>(
         rt: &R,
         alloc: Global,
         config: &Config,
+        base: &Base,
         kept: bool,
     ) -> Result<CommitState, ConfigError>
+        requires logged { IsLogged base.now.entries.items base.now.image }
+        requires above { base.now.image.version ≤ config.now.start }
         ensures allowed { OnOk result (IsNone (config_refusal config.now)) }
         ensures refused { IfErr result (λ error.
             (error ≡ ConfigError.Memory) ⊎ (config_refusal config.now ≡ Some error)) }
-        ensures config { IfOk result (λ state. state.name.config ≡ config.now) }
-        ensures kept { IfOk result (λ state. state.name.kept ≡ kept) }
+        ensures name { IfOk result (λ state. (state.name.kept ≡ kept)
+            × (state.name.origin ≡ origin_of config.now base.now.entries.items)) }
         ensures empty { IfOk result (λ state.
             (state.published ≡ []) × (state.log ≡ []) × (state.due ≡ [])) }
         ensures clients { IfOk result (λ state. length state.last ≡ config.now.places) }
@@ -384,7 +385,7 @@ impl CommitState {
         let pipeline = Pipeline::new(alloc, config)?;
         let places = config.places as usize;
         let last = Vec::from_elem(alloc, 0u64, places)?;
-        let (publisher, head) = Publisher::open(rt, alloc, config, kept, places)?;
+        let (publisher, head) = Publisher::open(rt, alloc, config, base, kept, places)?;
         let prefix = publisher.prefix();
         Ok(CommitState {
             alloc,

@@ -32,12 +32,12 @@ fn handed_in<E: End, R: Wait>(
     requires key { (key.old.table_id ≡ lock.now.table.shared.table_id) × (key.old.me.1 ≡ []) }
     requires client { key.old.me.0.client ≡ Some client }
     requires name { prefix.now.name ≡ key.old.me.0.about.value.state.name }
-    requires over { IsOpenOver prefix.now.name.config prefix.now.log request trace }
+    requires over { IsOpenOver prefix.now.name.origin prefix.now.log request trace }
     ensures table { key.new.table_id ≡ key.old.table_id }
     ensures key { key.new.me ≡ (with_last result.last key.old.me.0, []) }
     ensures last { result.last ≡ last_then key.old.me.0.last result.outcome }
     ensures prefix { IsLogOf key.old.me.0.about.value.state.name result.prefix }
-    ensures shows { IfSome result.prefix (λ prefix. Shows prefix.name.config prefix.log
+    ensures shows { IfSome result.prefix (λ prefix. Shows prefix.name.origin prefix.log
         (entry client (key.old.me.0.last + 1) request trace) result.outcome) }
     ensures due { IfSome result.due (IsEndOf key.old.me.0.about.value.state.name
         (entry client (key.old.me.0.last + 1) request trace)) }
@@ -65,12 +65,12 @@ pub fn critical_section<E: End, R: Wait>(
     requires key { (key.old.table_id ≡ lock.now.table.shared.table_id) × (key.old.me.1 ≡ []) }
     requires client { key.old.me.0.client ≡ Some client }
     requires name { prefix.now.name ≡ key.old.me.0.about.value.state.name }
-    requires over { IsOpenOver prefix.now.name.config prefix.now.log request trace }
+    requires over { IsOpenOver prefix.now.name.origin prefix.now.log request trace }
     ensures table { key.new.table_id ≡ key.old.table_id }
     ensures key { key.new.me ≡ (with_last result.last key.old.me.0, []) }
     ensures last { result.last ≡ last_then key.old.me.0.last result.outcome }
     ensures prefix { IsLogOf key.old.me.0.about.value.state.name result.prefix }
-    ensures shows { IfSome result.prefix (λ prefix. Shows prefix.name.config prefix.log
+    ensures shows { IfSome result.prefix (λ prefix. Shows prefix.name.origin prefix.log
         (entry client (key.old.me.0.last + 1) request trace) result.outcome) }
     ensures due { IfSome result.due (IsEndOf key.old.me.0.about.value.state.name
         (entry client (key.old.me.0.last + 1) request trace)) }
@@ -106,7 +106,7 @@ pub fn look_there<E: End, R: Wait>(
     ensures key { key.new.me ≡ (with_last key.old.me.0.last key.old.me.0, []) }
     ensures seen { MatchOption result (key.old.me.0.about.value.state.name.kept ≡ false)
         (λ seen. (seen.1.name ≡ key.old.me.0.about.value.state.name)
-        × IsSafe E.may_leave E.is_log key.old.me.0.about.value.state.name.config
+        × IsSafe E.may_leave E.is_log key.old.me.0.about.value.state.name.origin
         seen.1.log seen.0.value) }
 {
     let guard = lock.wait(rt);

@@ -8,8 +8,12 @@ ghost use Rattle.cluster_core.specs.declared.answers.ConfigError.{ConfigError as
 ghost use Rattle.runtime.specs.Publication.{knows};
 ghost use Rattle.runtime.specs.History.{Name};
 ghost use Rattle.runtime.specs.Clients.{knows_that, fresh_clients};
+ghost use Rattle.replay.specs.Replaying.{IsLogged};
+ghost use Rattle.runtime.specs.Logs.{log_map};
+ghost use Rattle.runtime.specs.Origins.{origin_of};
 
 use crate::answers::OpenError;
+use crate::base::Base;
 use crate::client::Client;
 use crate::commit_lock::{CommitLock, LockKey};
 use crate::commit_state::CommitState;
@@ -48,7 +52,7 @@ fn another<E: End, R: Wait>(
         × (key.old.me.0.about.value.state.name ≡ prefix.now.name) × (key.old.me.0.client ≡ None)
         × (key.old.me.0.next ≡ number) }
     requires prefix { prefix.now.log ≡ [] }
-    requires number { number < prefix.now.name.config.places }
+    requires number { number < prefix.now.name.origin.config.places }
     ensures key { OnOk result ((key.new.table_id ≡ key.old.table_id) × (key.new.me.1 ≡ [])
         × (key.new.me.0.about ≡ key.old.me.0.about) × (key.new.me.0.client ≡ None)
         × (key.new.me.0.next ≡ number + 1)) }
@@ -82,7 +86,7 @@ fn clients<E: End, R: Wait>(
 ) -> Result<Vec<Client<E>>, OpenError>
     requires state { (owned.state.published ≡ [])
         × ((client : ℕ) → slice_index owned.state.last client ≡ 0) }
-    requires places { places ≤ owned.state.name.config.places }
+    requires places { places ≤ owned.state.name.origin.config.places }
     ensures clients { IfOk result (λ clients.
         clients.items ≡ fresh_clients owned.state.name places) }
     ensures refused { IfErr result (λ error.
@@ -111,7 +115,7 @@ pub fn open<E: End, R: Wait>(
     config: &Config,
 ) -> Result<Vec<Client<E>>, OpenError>
     ensures clients { IfOk result (λ clients.
-        (name : Name) × (name.config ≡ config.now)
+        (name : Name) × (name.origin ≡ origin_of config.now [])
         × (clients.items ≡ fresh_clients name config.now.places) × (name.kept ≡ false)) }
     ensures allowed { OnOk result (IsNone (config_refusal config.now)) }
     ensures refused { IfErr result (λ error.
@@ -119,7 +123,8 @@ pub fn open<E: End, R: Wait>(
         ⊎ ((why : ConfigRefusal) × (error ≡ OpenError.Config why)
         × (config_refusal config.now ≡ Some why))) }
 {
-    let state = CommitState::open(rt, alloc, config, false)?;
+    let base = Base::none(alloc);
+    let state = CommitState::open(rt, alloc, config, &base, false)?;
     let owned = LockedState::unkept(state, end, Vec::new(alloc));
     clients(rt, alloc, owned, config.places as usize)
 }
@@ -134,7 +139,7 @@ pub fn open_kept<E: End, R: Wait>(
 ) -> Result<Vec<Client<E>>, OpenError>
     requires { E.has end [] }
     ensures clients { IfOk result (λ clients.
-        (name : Name) × (name.config ≡ config.now)
+        (name : Name) × (name.origin ≡ origin_of config.now [])
         × (clients.items ≡ fresh_clients name config.now.places) × (name.kept ≡ true)) }
     ensures allowed { OnOk result (IsNone (config_refusal config.now)) }
     ensures refused { IfErr result (λ error.
@@ -142,7 +147,35 @@ pub fn open_kept<E: End, R: Wait>(
         ⊎ ((why : ConfigRefusal) × (error ≡ OpenError.Config why)
         × (config_refusal config.now ≡ Some why))) }
 {
-    let state = CommitState::open(rt, alloc, config, true)?;
+    open_kept_over(rt, alloc, end, config, &Base::none(alloc))
+}
+
+/// Opens a database that goes on from the entries of a log, and of which each committed transaction
+/// is kept after them, as `open_kept` says, in a file whose log has just these entries. Its first
+/// version is that of the configuration, which isn't below the last one of the entries, and its map
+/// is there what they come to.
+#[tactic(auto, using(crate::proofs::Bases::map_first))]
+pub fn open_kept_over<E: End, R: Wait>(
+    rt: &R,
+    alloc: Global,
+    end: E,
+    config: &Config,
+    base: &Base,
+) -> Result<Vec<Client<E>>, OpenError>
+    requires file { E.has end base.now.entries.items }
+    requires logged { IsLogged base.now.entries.items base.now.image }
+    requires above { base.now.image.version ≤ config.now.start }
+    ensures clients { IfOk result (λ clients.
+        (name : Name) × (name.origin ≡ origin_of config.now base.now.entries.items)
+        × (clients.items ≡ fresh_clients name config.now.places) × (name.kept ≡ true)
+        × (log_map name.origin [] config.now.start ≡ base.now.image.map)) }
+    ensures allowed { OnOk result (IsNone (config_refusal config.now)) }
+    ensures refused { IfErr result (λ error.
+        (error ≡ OpenError.NoPlace) ⊎ (error ≡ OpenError.Memory)
+        ⊎ ((why : ConfigRefusal) × (error ≡ OpenError.Config why)
+        × (config_refusal config.now ≡ Some why))) }
+{
+    let state = CommitState::open(rt, alloc, config, base, true)?;
     let owned = LockedState::kept(state, end, Vec::new(alloc));
     clients(rt, alloc, owned, config.places as usize)
 }

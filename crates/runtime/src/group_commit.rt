@@ -87,7 +87,7 @@ fn keep_waiting<E: End, R: Wait>(rt: &R, alloc: Global, owned: LockedState<E>) -
 fn sees<E: End>(owned: &LockedState<E>, log: &Option<LogPrefix>) -> bool
     requires { IsLogOf owned.now.state.name log.now }
     ensures { OnTrue result (IfSome log.now (λ log. log.name.kept ≡ true
-        → IsSafe E.may_leave E.is_log log.name.config log.log owned.now.end)) }
+        → IsSafe E.may_leave E.is_log log.name.origin log.log owned.now.end)) }
 {
     match log {
         Some(log) => owned.shows(log),
@@ -108,7 +108,7 @@ fn kept_and_seen<E: End, R: Wait>(
     ensures name { result.0.state.name ≡ owned.state.name }
     ensures last { result.0.state.last ≡ owned.state.last }
     ensures safe { OnTrue result.1 (IfSome log.now (λ log. log.name.kept ≡ true
-        → IsSafe E.may_leave E.is_log log.name.config log.log result.0.end)) }
+        → IsSafe E.may_leave E.is_log log.name.origin log.log result.0.end)) }
 {
     let seen = sees(&owned, log);
     if seen || !is_last {

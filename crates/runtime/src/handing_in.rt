@@ -119,13 +119,13 @@ fn request_and_publish<R: Wait>(
     trace: Trace,
 ) -> (CommitState, Told)
     requires name { prefix.now.name ≡ state.name }
-    requires over { IsOpenOver state.name.config prefix.now.log request trace }
+    requires over { IsOpenOver state.name.origin prefix.now.log request trace }
     ensures name { result.0.name ≡ state.name }
     ensures numbers { GivesOne state.last result.0.last
         (next_entry state.last client request trace) result.1.outcome }
     ensures last { result.1.last ≡ slice_index result.0.last client }
     ensures prefix { IsLogOf state.name result.1.prefix }
-    ensures shows { IfSome result.1.prefix (λ prefix. Shows prefix.name.config prefix.log
+    ensures shows { IfSome result.1.prefix (λ prefix. Shows prefix.name.origin prefix.log
         (next_entry state.last client request trace) result.1.outcome) }
     ensures due { IfSome result.1.due (IsEndOf state.name
         (next_entry state.last client request trace)) }
@@ -213,13 +213,13 @@ fn hand_in_kept<E: End>(
 ) -> (LockedState<E>, Told)
     requires on { (state.name.kept ≡ true) × IsOn E.has state waiting.items end }
     requires name { prefix.now.name ≡ state.name }
-    requires over { IsOpenOver state.name.config prefix.now.log request trace }
+    requires over { IsOpenOver state.name.origin prefix.now.log request trace }
     ensures name { result.0.state.name ≡ state.name }
     ensures numbers { GivesOne state.last result.0.state.last
         (next_entry state.last client request trace) result.1.outcome }
     ensures last { result.1.last ≡ slice_index result.0.state.last client }
     ensures prefix { IsLogOf state.name result.1.prefix }
-    ensures shows { IfSome result.1.prefix (λ prefix. Shows prefix.name.config prefix.log
+    ensures shows { IfSome result.1.prefix (λ prefix. Shows prefix.name.origin prefix.log
         (next_entry state.last client request trace) result.1.outcome) }
     ensures due { IfSome result.1.due (IsEndOf state.name
         (next_entry state.last client request trace)) }
@@ -269,13 +269,13 @@ pub fn hand_in<E: End, R: Wait>(
     trace: Trace,
 ) -> (LockedState<E>, Told)
     requires name { prefix.now.name ≡ owned.state.name }
-    requires over { IsOpenOver owned.state.name.config prefix.now.log request trace }
+    requires over { IsOpenOver owned.state.name.origin prefix.now.log request trace }
     ensures name { result.0.state.name ≡ owned.state.name }
     ensures numbers { GivesOne owned.state.last result.0.state.last
         (next_entry owned.state.last client request trace) result.1.outcome }
     ensures last { result.1.last ≡ slice_index result.0.state.last client }
     ensures prefix { IsLogOf owned.state.name result.1.prefix }
-    ensures shows { IfSome result.1.prefix (λ prefix. Shows prefix.name.config prefix.log
+    ensures shows { IfSome result.1.prefix (λ prefix. Shows prefix.name.origin prefix.log
         (next_entry owned.state.last client request trace) result.1.outcome) }
     ensures due { IfSome result.1.due (IsEndOf owned.state.name
         (next_entry owned.state.last client request trace)) }

@@ -67,7 +67,7 @@ pub(crate) fn decided(alloc: Global, reported: &Reported, due: Due) -> InFlight
 /// Adds the entry to the history, after this log, where that doesn't have it yet.
 pub(crate) fn recorded(head: &LogHead, log: &LogPrefix, due: Due) -> Due
     requires head { head.now ≡ log.now.name.book }
-    requires well_formed { IsWellFormedLog log.now.name.config
+    requires well_formed { IsWellFormedLog log.now.name.origin
         (log.now.log ++ submitted_entry due.submitted ∷ []) }
     requires recorded { IsRecorded log.now.name log.now.log due }
     ensures same { (result.submitted ≡ due.submitted) × (result.mutations ≡ due.mutations) }
@@ -93,7 +93,7 @@ pub(crate) fn recorded(head: &LogHead, log: &LogPrefix, due: Due) -> Due
 /// than the log, or has no room.
 fn with_entry(head: &LogHead, log: &LogPrefix, submitted: &Submitted) -> Option<LogPrefix>
     requires head { head.now ≡ log.now.name.book }
-    requires well_formed { IsWellFormedLog log.now.name.config
+    requires well_formed { IsWellFormedLog log.now.name.origin
         (log.now.log ++ submitted_entry submitted.now ∷ []) }
     ensures { IfSome result (λ prefix. prefix ≡ log_prefix log.now.name
         (log.now.log ++ submitted_entry submitted.now ∷ [])) }

@@ -3,6 +3,7 @@
 
 mod answers;
 mod arrivals;
+mod base;
 mod client;
 mod commit_lock;
 mod commit_state;
@@ -14,8 +15,8 @@ mod in_flight;
 mod index_worker;
 mod keeping;
 mod locked_state;
-mod log_config;
 mod log_entry;
+mod log_origin;
 mod log_prefix;
 mod open_transaction;
 mod outcome;
@@ -33,9 +34,10 @@ mod transaction;
 mod worker_progress;
 
 pub use answers::{CommandError, CommitError, Done, OpenError, RunError, Seen};
+pub use base::Base;
 pub use client::Client;
 pub use commit_state::CommitState;
-pub use db::{open, open_kept};
+pub use db::{open, open_kept, open_kept_over};
 pub use index_worker::{Gate, GatePoint, build_worker, build_worker_in};
 pub use keeping::{Keeping, NotKept};
 pub use locked_state::{End, Waits};

@@ -172,13 +172,13 @@ impl<E: End> LockedState<E> {
         }
     }
 
-    /// The locked state of a new database whose entries are kept.
+    /// The locked state of a database whose entries are kept, after those that it goes on from.
     #[tactic(auto, using(crate::proofs::Kept::on_first))]
     pub(crate) fn kept(state: CommitState, end: E, waiting: Vec<Entry>) -> LockedState<E>
         requires name { state.name.kept ≡ true }
         requires new { (state.published ≡ []) × (state.log ≡ []) × (state.due ≡ [])
             × (waiting.items ≡ []) }
-        requires file { E.has end [] }
+        requires file { E.has end state.name.origin.before }
         ensures { result ≡ locked_view state end Keeping.On waiting.items }
     {
         LockedState {
@@ -202,7 +202,7 @@ impl<E: End> LockedState<E> {
         requires { log.now.name ≡ self.now.state.name }
         ensures shown { OnTrue result (IsPrefix log.now.log self.now.state.published) }
         ensures safe { OnTrue result (self.now.state.name.kept ≡ true
-            → IsSafe E.may_leave E.is_log log.now.name.config log.now.log self.now.end) }
+            → IsSafe E.may_leave E.is_log log.now.name.origin log.now.log self.now.end) }
     {
         log.begins(&self.state.prefix())
     }
@@ -213,7 +213,7 @@ impl<E: End> LockedState<E> {
     pub(crate) fn look(&self) -> Option<(Snapshot<E>, LogPrefix)>
         ensures { MatchOption result (self.now.state.name.kept ≡ false) (λ seen.
             (seen.1 ≡ log_prefix self.now.state.name self.now.state.published)
-            × IsSafe E.may_leave E.is_log self.now.state.name.config
+            × IsSafe E.may_leave E.is_log self.now.state.name.origin
             self.now.state.published seen.0.value) }
     {
         if !self.keeping.is_kept() {

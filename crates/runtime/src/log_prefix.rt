@@ -7,11 +7,14 @@ ghost use mathlib.Core.List.{IsPrefix};
 ghost use Rattle.runtime.specs.Logs.{HoldsEach, IsHeadlineOf, IsSerialLog, IsServedLog};
 ghost use Rattle.runtime.specs.Logs.{IsWellFormedLog, are_in_turn, history_of, is_once};
 ghost use Rattle.runtime.specs.Logs.{version_of};
-ghost use Rattle.cluster_core.specs.History.{IsLegal};
+ghost use Rattle.cluster_core.specs.History.{IsLegalOver};
 ghost use Rattle.runtime.specs.History.{log_prefix, submitted_entry};
+ghost use Rattle.replay.specs.Replaying.{IsLogged};
+ghost use Rattle.runtime.specs.Origins.{MayBegin, base_of, origin_of};
 
-use crate::log_config::LogConfig;
+use crate::base::Base;
 use crate::log_entry::{Entry, Submitted};
+use crate::log_origin::LogOrigin;
 use cluster_core::Config;
 use logbook::{Gain, Offer, Plain, Play, Rule, Seen, Start, Word};
 use std::marker::Model;
@@ -88,7 +91,7 @@ impl Model for LogHead {
 #[derive(Drop)]
 pub struct LogPrefix {
     count: u64,
-    log_config: LogConfig,
+    log_origin: LogOrigin,
     kept: bool,
     seen: Seen<Entry, u64, LogRule>,
 }
@@ -98,27 +101,30 @@ impl Model for LogPrefix {
     ghost use Rattle.runtime.specs.Logs.{IsWellFormedLog};
     ghost use Rattle.runtime.specs.History.{Prefix, database_name, log_prefix};
     ghost use Rattle.std.specs.Coded.{codes};
+    ghost use Rattle.command_log.specs.contracts.entry.Entry as kept_entries;
     ghost use Rattle.runtime.specs.contracts.log_entry.Entry as entries;
 
     ghost Value = { Prefix };
 
-    ghost coded = { Prim.hlevel (codes, entries.the_row.coded) };
+    ghost coded = { Prim.hlevel (codes, entries.the_row.coded, kept_entries.the_row.coded) };
 
-    ghost view = { λ f. log_prefix (database_name f.seen.book f.log_config f.kept) f.seen.log };
+    ghost view = { λ f. log_prefix (database_name f.seen.book f.log_origin f.kept) f.seen.log };
 
-    ghost invariant = { λ f. (f.count ≡ length f.seen.log) × IsWellFormedLog f.log_config f.seen.log };
+    ghost invariant = { λ f. (f.count ≡ length f.seen.log) × IsWellFormedLog f.log_origin f.seen.log };
 }
 
-/// A new history, which is empty, of a database of this configuration, in which what is committed
-/// is kept, or isn't.
-#[tactic(auto, using(crate::proofs::WellFormed::lawful_first))]
-pub fn opened(config: &Config, kept: bool) -> (LogHead, LogPrefix)
+/// A new history, which is empty, of a database of this configuration that goes on from this, in
+/// which what is committed is kept, or isn't.
+#[tactic(auto, using(crate::proofs::WellFormed::lawful_first, crate::proofs::Bases::may_begin))]
+pub fn opened(config: &Config, base: &Base, kept: bool) -> (LogHead, LogPrefix)
+    requires logged { IsLogged base.now.entries.items base.now.image }
+    requires above { base.now.image.version ≤ config.now.start }
     ensures empty { result.1.log ≡ [] }
-    ensures name { (result.1.name.config ≡ config.now) × (result.1.name.book ≡ result.0)
-        × (result.1.name.kept ≡ kept) }
+    ensures name { (result.1.name.origin ≡ origin_of config.now base.now.entries.items)
+        × (result.1.name.book ≡ result.0) × (result.1.name.kept ≡ kept) }
 {
-    let log_config = LogConfig::of(config);
-    prove!(log_config.start() <= u64::MAX);
+    let log_origin = LogOrigin::of(config, &base.entries);
+    prove!(log_origin.start() <= u64::MAX);
     let (seen, mut first, _second) = Seen::open(Start::alone(), 0, 0);
     let head = LogHead {
         word: Word::tracked(0, &mut first),
@@ -127,7 +133,7 @@ pub fn opened(config: &Config, kept: bool) -> (LogHead, LogPrefix)
         head,
         LogPrefix {
             count: 0,
-            log_config,
+            log_origin,
             kept,
             seen,
         },
@@ -138,7 +144,7 @@ impl LogPrefix {
     /// The number of entries.
     pub fn len(&self) -> u64
         ensures length { result ≡ length self.now.log }
-        ensures well_formed { IsWellFormedLog self.now.name.config self.now.log }
+        ensures well_formed { IsWellFormedLog self.now.name.origin self.now.log }
     {
         self.count
     }
@@ -146,10 +152,10 @@ impl LogPrefix {
     /// The version of the last entry.
     #[tactic(auto, using(crate::proofs::Entries::requests_length))]
     pub fn version(&self) -> u64
-        ensures value { result ≡ version_of self.now.name.config self.now.log }
-        ensures well_formed { IsWellFormedLog self.now.name.config self.now.log }
+        ensures value { result ≡ version_of self.now.name.origin self.now.log }
+        ensures well_formed { IsWellFormedLog self.now.name.origin self.now.log }
     {
-        self.log_config.start() + self.count
+        self.log_origin.start() + self.count
     }
 
     /// Whether what is committed in its database is kept.
@@ -163,12 +169,12 @@ impl LogPrefix {
     /// longer ago than the window.
     pub fn is_near(&self, other: &LogPrefix) -> bool
         requires { other.now.name ≡ self.now.name }
-        ensures { IsTrue result ↔ (version_of other.now.name.config other.now.log
-            - version_of self.now.name.config self.now.log ≤ self.now.name.config.window) }
+        ensures { IsTrue result ↔ (version_of other.now.name.origin other.now.log
+            - version_of self.now.name.origin self.now.log ≤ self.now.name.origin.config.window) }
     {
         let last = other.version();
         let own = self.version();
-        last <= own || last - own <= self.log_config.window()
+        last <= own || last - own <= self.log_origin.window()
     }
 
     /// What is promised of each log: its history is legal, the map at each version holds what
@@ -179,13 +185,15 @@ impl LogPrefix {
     /// version.
     #[tactic(auto, using(crate::proofs::Serving::legal_of))]
     pub fn promises(&self)
-        ensures legal { IsLegal (history_of self.now.name.config self.now.log) }
-        ensures holds { HoldsEach self.now.name.config self.now.log }
-        ensures serial { IsSerialLog self.now.name.config self.now.log }
-        ensures served { IsServedLog self.now.name.config self.now.log }
+        ensures begun { MayBegin self.now.name.origin }
+        ensures legal { IsLegalOver (base_of self.now.name.origin)
+            (history_of self.now.name.origin self.now.log) }
+        ensures holds { HoldsEach self.now.name.origin self.now.log }
+        ensures serial { IsSerialLog self.now.name.origin self.now.log }
+        ensures served { IsServedLog self.now.name.origin self.now.log }
         ensures once { is_once self.now.log ≡ true }
         ensures in_turn { are_in_turn [] self.now.log ≡ true }
-        ensures headline { IsHeadlineOf self.now.name.config self.now.log }
+        ensures headline { IsHeadlineOf self.now.name.origin self.now.log }
     {
         self.len();
     }
@@ -196,7 +204,7 @@ impl LogPrefix {
     {
         LogPrefix {
             count: self.count,
-            log_config: self.log_config.again(),
+            log_origin: self.log_origin.again(),
             kept: self.kept,
             seen: self.seen.again(),
         }
@@ -232,7 +240,7 @@ impl LogPrefix {
     pub(crate) fn add(&mut self, head: &LogHead, submitted: &Submitted) -> bool
         requires book { head.now ≡ self.old.name.book }
         requires room { length self.old.log < 2 ^ 62 }
-        requires well_formed { IsWellFormedLog self.old.name.config
+        requires well_formed { IsWellFormedLog self.old.name.origin
             (self.old.log ++ submitted_entry submitted.now ∷ []) }
         ensures added { OnTrue result (self.new ≡ log_prefix self.old.name
             (self.old.log ++ submitted_entry submitted.now ∷ [])) }

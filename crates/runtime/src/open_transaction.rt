@@ -24,9 +24,9 @@ impl OpenTransaction {
     pub fn new(alloc: Global, prefix: LogPrefix, store: StoreNumber) -> OpenTransaction
         ensures prefix { result.prefix ≡ prefix }
         ensures fresh { IsFresh prefix.name prefix.log store result }
-        ensures over { IsOpenOver prefix.name.config prefix.log
+        ensures over { IsOpenOver prefix.name.origin prefix.log
             result.transaction result.trace }
-        ensures at { result.transaction.read_version ≡ version_of prefix.name.config prefix.log }
+        ensures at { result.transaction.read_version ≡ version_of prefix.name.origin prefix.log }
     {
         let transaction = Transaction::begin(alloc, prefix.version());
         let trace = Trace::begin(alloc, store, prefix.is_kept());

@@ -85,12 +85,12 @@ pub(crate) fn look_up(
     number: u64,
 ) -> (StateReader, Option<(LogPrefix, SubmissionStatus)>)
     requires reader { (knowledge reader.place).named ≡ true }
-    requires client { client < (knowledge reader.place).prefix.name.config.places }
+    requires client { client < (knowledge reader.place).prefix.name.origin.config.places }
     requires number { 1 ≤ number }
     ensures { MatchOption result.1 (knowledge result.0.place ≡ knowledge reader.place)
         (λ found. IsLater (knowledge reader.place).prefix found.0
         × (knowledge result.0.place ≡ has_seen found.0)
-        × (found.1 ≡ recent_outcome found.0.name.config found.0.log client number)) }
+        × (found.1 ≡ recent_outcome found.0.name.origin found.0.log client number)) }
 {
     match enter(reader) {
         Ok(reading) => {
@@ -104,11 +104,11 @@ pub(crate) fn look_up(
 /// What became of a client's submission of this number, by the published log, which it gives too.
 fn status_there(state: &Published, client: u64, number: u64) -> (LogPrefix, SubmissionStatus)
     requires state { IsFold state.now }
-    requires client { client < state.now.prefix.name.config.places }
+    requires client { client < state.now.prefix.name.origin.config.places }
     requires number { 1 ≤ number }
     ensures prefix { result.0 ≡ state.now.prefix }
     ensures status { result.1
-        ≡ recent_outcome state.now.prefix.name.config state.now.prefix.log client number }
+        ≡ recent_outcome state.now.prefix.name.origin state.now.prefix.log client number }
 {
     prove!(state.prefix.len() <= u64::MAX);
     (state.prefix.again(), state.recent.status(client, number))
@@ -127,18 +127,18 @@ fn perform_over(
     command: &Command,
 ) -> Result<Reply, EnterError>
     requires state { IsFold state.now × (state.now.prefix.name ≡ prefix.now.name) }
-    requires over { IsOpenOver prefix.now.name.config prefix.now.log tx.old trace.old }
-    requires at { tx.old.read_version ≡ version_of prefix.now.name.config prefix.now.log }
+    requires over { IsOpenOver prefix.now.name.origin prefix.now.log tx.old trace.old }
+    requires at { tx.old.read_version ≡ version_of prefix.now.name.origin prefix.now.log }
     requires known { IsKnown trace.old.store
-        (log_map prefix.now.name.config prefix.now.log) known.old.store tx.old }
+        (log_map prefix.now.name.origin prefix.now.log) known.old.store tx.old }
     ensures known { IsKnown trace.old.store
-        (log_map prefix.now.name.config prefix.now.log) known.new.store tx.new }
+        (log_map prefix.now.name.origin prefix.now.log) known.new.store tx.new }
     ensures answer { IfOk result (λ reply.
-        IsAnswer prefix.now.name.config prefix.now.log
+        IsAnswer prefix.now.name.origin prefix.now.log
         tx.old trace.old command.now reply) }
     ensures done { IfOk result (λ reply.
         trace.new ≡ with_performed trace.old (record { command = command.now; reply = reply })) }
-    ensures over { IsOpenOver prefix.now.name.config prefix.now.log tx.new trace.new }
+    ensures over { IsOpenOver prefix.now.name.origin prefix.now.log tx.new trace.new }
     ensures version { tx.new.read_version ≡ tx.old.read_version }
     ensures store { trace.new.store ≡ trace.old.store }
     ensures refused { IfErr result (λ error.
@@ -183,17 +183,17 @@ pub fn perform_at(
 ) -> (StateReader, Result<Reply, EnterError>, LogPrefix)
     requires reader { (knowledge reader.place).named ≡ true }
     requires prefix { prefix.now.name ≡ (knowledge reader.place).prefix.name }
-    requires over { IsOpenOver prefix.now.name.config prefix.now.log tx.old trace.old }
-    requires at { tx.old.read_version ≡ version_of prefix.now.name.config prefix.now.log }
+    requires over { IsOpenOver prefix.now.name.origin prefix.now.log tx.old trace.old }
+    requires at { tx.old.read_version ≡ version_of prefix.now.name.origin prefix.now.log }
     ensures reader { (knowledge result.0.place ≡ knowledge reader.place)
         ⊎ (knowledge result.0.place ≡ has_seen result.2) }
     ensures seen { result.2.name ≡ prefix.now.name }
     ensures answer { IfOk result.1 (λ reply.
-        IsAnswer prefix.now.name.config prefix.now.log
+        IsAnswer prefix.now.name.origin prefix.now.log
         tx.old trace.old command.now reply) }
     ensures done { IfOk result.1 (λ reply.
         trace.new ≡ with_performed trace.old (record { command = command.now; reply = reply })) }
-    ensures over { IsOpenOver prefix.now.name.config prefix.now.log tx.new trace.new }
+    ensures over { IsOpenOver prefix.now.name.origin prefix.now.log tx.new trace.new }
     ensures version { tx.new.read_version ≡ tx.old.read_version }
     ensures store { trace.new.store ≡ trace.old.store }
     ensures refused { IfErr result.1 (λ error.
@@ -217,21 +217,21 @@ pub(crate) fn perform_open_at(
 ) -> (StateReader, Result<Reply, EnterError>, LogPrefix)
     requires reader { (knowledge reader.place).named ≡ true }
     requires prefix { prefix.now.name ≡ (knowledge reader.place).prefix.name }
-    requires over { IsOpenOver prefix.now.name.config prefix.now.log tx.old trace.old }
-    requires at { tx.old.read_version ≡ version_of prefix.now.name.config prefix.now.log }
+    requires over { IsOpenOver prefix.now.name.origin prefix.now.log tx.old trace.old }
+    requires at { tx.old.read_version ≡ version_of prefix.now.name.origin prefix.now.log }
     requires known { IsKnown trace.old.store
-        (log_map prefix.now.name.config prefix.now.log) known.old.store tx.old }
+        (log_map prefix.now.name.origin prefix.now.log) known.old.store tx.old }
     ensures known { IsKnown trace.old.store
-        (log_map prefix.now.name.config prefix.now.log) known.new.store tx.new }
+        (log_map prefix.now.name.origin prefix.now.log) known.new.store tx.new }
     ensures reader { (knowledge result.0.place ≡ knowledge reader.place)
         ⊎ (knowledge result.0.place ≡ has_seen result.2) }
     ensures seen { result.2.name ≡ prefix.now.name }
     ensures answer { IfOk result.1 (λ reply.
-        IsAnswer prefix.now.name.config prefix.now.log
+        IsAnswer prefix.now.name.origin prefix.now.log
         tx.old trace.old command.now reply) }
     ensures done { IfOk result.1 (λ reply.
         trace.new ≡ with_performed trace.old (record { command = command.now; reply = reply })) }
-    ensures over { IsOpenOver prefix.now.name.config prefix.now.log tx.new trace.new }
+    ensures over { IsOpenOver prefix.now.name.origin prefix.now.log tx.new trace.new }
     ensures version { tx.new.read_version ≡ tx.old.read_version }
     ensures store { trace.new.store ≡ trace.old.store }
     ensures refused { IfErr result.1 (λ error.

@@ -1,10 +1,14 @@
 // Publication to readers, by `left_right`. Used by `commit_state`.
-ghost use Rattle.std.specs.Prelude.{◌≡◌, ◌^◌, ◌<◌, [], ◌∷◌, ◌++◌, ◌⊎◌, Some, IfOk, IfErr, MatchResult};
+ghost use Rattle.std.specs.Prelude.{◌≡◌, ◌^◌, ◌<◌, ◌≤◌, [], ◌∷◌, ◌++◌, ◌⊎◌, Some};
+ghost use Rattle.std.specs.Prelude.{IfOk, IfErr, MatchResult};
 ghost use Rattle.cluster_core.specs.Configuration.{config_refusal};
 ghost use Rattle.left_right.specs.Sides.{view};
 ghost use Rattle.runtime.specs.History.{database_name, log_prefix, submitted_entry};
+ghost use Rattle.replay.specs.Replaying.{IsLogged};
+ghost use Rattle.runtime.specs.Origins.{origin_of};
 ghost use Rattle.runtime.specs.Publication.{Leads, knows, publisher_view};
 
+use crate::base::Base;
 use crate::log_prefix::{LogHead, LogPrefix, opened};
 use crate::publication::{See, StateReader, StateWriter, Tell};
 use crate::published::{Published, Step};
@@ -24,11 +28,12 @@ impl Model for Publisher {
     ghost use Rattle.runtime.specs.Publication.{PublisherView, publisher_view, IsFold, LeadOn, entries_of};
     ghost use Rattle.runtime.specs.Publication.{has_seen};
     ghost use Rattle.std.specs.Coded.{codes};
+    ghost use Rattle.command_log.specs.contracts.entry.Entry as kept_entries;
     ghost use Rattle.runtime.specs.contracts.log_entry.Entry as entries;
 
     ghost Value = { PublisherView };
 
-    ghost coded = { Prim.hlevel (codes, entries.the_row.coded) };
+    ghost coded = { Prim.hlevel (codes, entries.the_row.coded, kept_entries.the_row.coded) };
 
     ghost view = { λ s. publisher_view s.writer.desk.shown.value.prefix.name
         s.writer.desk.shown.value.prefix.log
@@ -41,24 +46,28 @@ impl Model for Publisher {
 }
 
 impl Publisher {
-    /// The writer of a new history, for so many readers, with the history's head. It is refused as
-    /// `Tier::new` refuses the configuration.
+    /// The writer of a new history of a database that goes on from this, for so many readers, with
+    /// the history's head. It is refused as `Tier::new` refuses the configuration.
     pub fn open<R: Wait>(
         rt: &R,
         alloc: Global,
         config: &Config,
+        base: &Base,
         kept: bool,
         readers: usize,
     ) -> Result<(Publisher, LogHead), ConfigError>
-        requires { (0 < readers) × (readers < 2 ^ 32) }
+        requires readers { (0 < readers) × (readers < 2 ^ 32) }
+        requires logged { IsLogged base.now.entries.items base.now.image }
+        requires above { base.now.image.version ≤ config.now.start }
         ensures made { IfOk result (λ r.
-            r.0 ≡ publisher_view (database_name r.1 config.now kept) [] []) }
+            r.0 ≡ publisher_view
+            (database_name r.1 (origin_of config.now base.now.entries.items) kept) [] []) }
         ensures refused { IfErr result (λ error.
             (error ≡ ConfigError.Memory) ⊎ (config_refusal config.now ≡ Some error)) }
     {
-        let (head, prefix) = opened(config, kept);
-        let first = Published::new(alloc, config, &prefix)?;
-        let second = Published::new(alloc, config, &prefix)?;
+        let (head, prefix) = opened(config, base, kept);
+        let first = Published::new(alloc, config, base, &prefix)?;
+        let second = Published::new(alloc, config, base, &prefix)?;
         let writer = StateWriter::new(alloc, first, second, readers)?;
         let (writer, result) = writer.publish_as::<See, R>(rt);
         if result.is_err() {

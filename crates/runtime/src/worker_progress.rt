@@ -111,7 +111,7 @@ fn is_committed<E: End>(client: &mut Client<E>, one: &Unsettled) -> Result<Optio
         1 ≤ one.now.number → one.now.number ≤ client.old.last → MatchResult result
         (λ told. TellsOne client.new one.now told)
         (λ error. IsWithheld client.new one.now.number error) }
-    ensures well_formed { OnOk result (IsWellFormedLog client.new.name.config client.new.log) }
+    ensures well_formed { OnOk result (IsWellFormedLog client.new.name.origin client.new.log) }
 {
     let status = match client.outcome(one.number) {
         Ok(status) => status,
@@ -168,7 +168,7 @@ pub(crate) fn settle<E: End>(
         IsProgress index start client.old top progress.old → MatchResult result
         (λ _. IsSettledUpto index start client.new top progress.new)
         (λ error. AskingEnds index start client.new error) }
-    ensures well_formed { OnOk result (IsWellFormedLog client.new.name.config client.new.log) }
+    ensures well_formed { OnOk result (IsWellFormedLog client.new.name.origin client.new.log) }
 {
     while settle_first(client, progress)? {}
     prove!(client.submissions() <= u64::MAX);

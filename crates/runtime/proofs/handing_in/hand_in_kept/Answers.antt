@@ -14,7 +14,7 @@ of-requires-then-not-goes_on g c =
     let e = g.E.End in
     let h = c.request-handed.ensures.handled in
     let still : true ≡ c.request-handed.new.self.name.kept = sym (ap (λ (n : Name). n.kept) h.name ∙ c.requires.on.0) in
-    let safe : IsSafe e.may_leave e.is_log c.request-handed.new.self.name.config c.request-handed.new.self.published c.args.end =
+    let safe : IsSafe e.may_leave e.is_log c.request-handed.new.self.name.origin c.request-handed.new.self.published c.args.end =
     closes_unwritten e.has e.may_leave e.is_log c.args.state c.request-handed.new.self c.args.waiting.items c.args.end g.met.E.End.leaves c.requires.on.1 h.name h.published in
     (still, safe)
 

@@ -13,8 +13,8 @@ use Rattle.runtime.proofs.client.Client.begin_here.Goals as goal
 
 -- a transaction that is open over a log, which the client has seen
 begun_over : (prefix : Prefix) (w : OpenTransaction) → w.prefix ≡ prefix
-    → IsOpenOver prefix.name.config prefix.log w.transaction w.trace
-    → w.transaction.read_version ≡ version_of prefix.name.config prefix.log → IsBegun prefix (Some w)
+    → IsOpenOver prefix.name.origin prefix.log w.transaction w.trace
+    → w.transaction.read_version ≡ version_of prefix.name.origin prefix.log → IsBegun prefix (Some w)
 begun_over prefix w is over at = rw is (refl, ([], append-nil prefix.log), over, at)
 
 pub invariant_of-self-2 : goal.invariant_of-self-2
@@ -30,7 +30,7 @@ invariant_of-self-2 g c =
     subst (λ r. Remembers r (knowledge c.look-reader.result.0.place)) (sym is) (subst (Remembers c.in-Some-seen.prefix) (sym found.1) (refl, later_self c.in-Some-seen.prefix)) in
     let begun : IsBegun c.again.result (Some c.new.result) =
     subst (λ r. IsBegun r (Some c.new.result)) (sym is) (begun_over c.in-Some-seen.prefix c.new.result c.new.ensures.prefix c.new.ensures.over c.new.ensures.at) in
-    let place : c.self.inside.number < c.again.result.name.config.places = subst (λ (n : Name). c.self.inside.number < n.config.places) (sym name) c.self.invariant.7 in
+    let place : c.self.inside.number < c.again.result.name.origin.config.places = subst (λ (n : Name). c.self.inside.number < n.origin.config.places) (sym name) c.self.invariant.7 in
     let known : IsKnownIn (Some c.new.result) c.let_go.new.self.store =
-    none_known c.new.result.trace.store (log_map c.new.result.prefix.name.config c.new.result.prefix.log) c.let_go.new.self.store c.new.result.transaction (ap (λ (k : Known). k.store) c.let_go.ensures) in
+    none_known c.new.result.trace.store (log_map c.new.result.prefix.name.origin c.new.result.prefix.log) c.let_go.new.self.store c.new.result.transaction (ap (λ (k : Known). k.store) c.let_go.ensures) in
     (c.self.invariant.0, c.self.invariant.1, c.self.invariant.2 ∙ sym name, reader, begun, c.self.invariant.5, c.self.invariant.6, place, known)

@@ -21,7 +21,7 @@ pub invariant_of-self-2 : goal.invariant_of-self-2
 invariant_of-self-2 g c =
     let i = c.self.invariant in
     let reader : HasReader (λ r. Remembers c.learnt.result (knowledge r.place)) c.self.inside.reader = reader_later (λ r. knowledge r.place) c.self.inside.me c.learnt.result c.self.inside.reader c.learnt.ensures.name c.learnt.ensures.log i.3 in
-    let place : c.self.inside.number < c.learnt.result.name.config.places = subst (λ (n : Name). c.self.inside.number < n.config.places) (sym c.learnt.ensures.name) i.7 in
+    let place : c.self.inside.number < c.learnt.result.name.origin.config.places = subst (λ (n : Name). c.self.inside.number < n.origin.config.places) (sym c.learnt.ensures.name) i.7 in
     search (reader, place, rules)
 
 pub critical_section-told-requires-clause-over : goal.critical_section-told-requires-clause-over
@@ -30,7 +30,7 @@ critical_section-told-requires-clause-over g c =
     let begun : c.self.inside.begun ≡ Some o = sym (sym c.in-Some.is ∙ c.take.ensures.value) in
     let over : IsBegun c.self.inside.me (Some o) = subst (IsBegun c.self.inside.me) begun c.self.invariant.4 in
     let own : c.into_request-request.result ≡ o.transaction = search rules in
-    subst (λ (q : CommitRequest). IsOpenOver o.prefix.name.config o.prefix.log q o.trace) (sym own) over.2
+    subst (λ (q : CommitRequest). IsOpenOver o.prefix.name.origin o.prefix.log q o.trace) (sym own) over.2
 
 pub returns-clause-answer : goal.returns-clause-answer
 returns-clause-answer g c w is =
@@ -43,7 +43,7 @@ returns-clause-answer g c w is =
     let outcome : Outcome = c.critical_section-told.result.outcome in
     let seen : Option Prefix = c.critical_section-told.result.prefix in
     let last : c.critical_section-told.result.last ≡ last_then c.self.inside.last outcome = c.critical_section-told.ensures.last ∙ ap (λ (n : ℕ). last_then n outcome) c.self.invariant.6 in
-    let shows : IfSome seen (λ (f : Prefix). Shows f.name.config f.log (entry c.self.inside.number (c.self.inside.last + 1) c.into_request-request.result c.in-Some.field-0.trace) outcome) = subst (λ (own : ℕ). IfSome seen (λ (f : Prefix). Shows f.name.config f.log (entry c.self.inside.number (own + 1) c.into_request-request.result c.in-Some.field-0.trace) outcome)) c.self.invariant.6 c.critical_section-told.ensures.shows in
+    let shows : IfSome seen (λ (f : Prefix). Shows f.name.origin f.log (entry c.self.inside.number (c.self.inside.last + 1) c.into_request-request.result c.in-Some.field-0.trace) outcome) = subst (λ (own : ℕ). IfSome seen (λ (f : Prefix). Shows f.name.origin f.log (entry c.self.inside.number (own + 1) c.into_request-request.result c.in-Some.field-0.trace) outcome)) c.self.invariant.6 c.critical_section-told.ensures.shows in
     let before : Knowledge = knows_that c.self.inside.me.name c.self.inside.me.log c.self.inside.number c.self.inside.last c.self.inside.begun in
     let after : Knowledge = knows_that c.learnt.result.name c.learnt.result.log c.self.inside.number c.critical_section-told.result.last c.take.new.self in
     let told : IsTold before after c.into_request-request.result c.in-Some.field-0.trace outcome seen = told_by before after c.self.inside.me.name c.into_request-request.result c.in-Some.field-0.trace outcome seen refl c.learnt.ensures.seen shows in
@@ -57,7 +57,7 @@ returns-clause-read_only g c w is none =
     let own : c.into_request-request.result ≡ c.in-Some.field-0.transaction = search rules in
     let r : c.into_request-request.result ≡ w.transaction = own ∙ ap (λ (v : OpenTransaction). v.transaction) same in
     let over : IsBegun c.self.inside.me (Some w) = subst (IsBegun c.self.inside.me) (begun ∙ is) c.self.invariant.4 in
-    let empty : c.into_request-request.result.mutations ≡ [] = ap (λ (q : CommitRequest). q.mutations) r ∙ nothing_written w.prefix.name.config w.prefix.log w.transaction w.trace over.2 none in
+    let empty : c.into_request-request.result.mutations ≡ [] = ap (λ (q : CommitRequest). q.mutations) r ∙ nothing_written w.prefix.name.origin w.prefix.log w.transaction w.trace over.2 none in
     absurd (true≢false (sym (c.if-is_empty.ensures.1 empty)))
 
 pub returns-then-is_empty-clause-log : goal.returns-then-is_empty-clause-log

@@ -8,4 +8,4 @@ pub returns-clause-kept : goal.returns-clause-kept
 returns-clause-kept g c =
     let e = g.E.End in
     rw (← c.self.view_is)
-    (subst (λ (n : Name). MatchOption c.look_there.result (n.kept ≡ false) (λ seen. (seen.1.name ≡ n) × IsSafe e.may_leave e.is_log n.config seen.1.log seen.0.value)) c.self.invariant.2 c.look_there.ensures.seen)
+    (subst (λ (n : Name). MatchOption c.look_there.result (n.kept ≡ false) (λ seen. (seen.1.name ≡ n) × IsSafe e.may_leave e.is_log n.origin seen.1.log seen.0.value)) c.self.invariant.2 c.look_there.ensures.seen)

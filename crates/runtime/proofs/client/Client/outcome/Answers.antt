@@ -15,7 +15,7 @@ look_up-reader-requires-clause-client g c =
     let me : Prefix = c.self.inside.me in
     let some : c.self.inside.reader ≡ Some c.in-Some.reader = sym c.take.ensures.value ∙ c.in-Some.is in
     let known : Remembers me (knowledge c.in-Some.reader.place) = subst (HasReader (λ r. Remembers me (knowledge r.place))) some c.self.invariant.3 in
-    subst (λ (n : Name). c.self.inside.number < n.config.places) known.1.0 c.self.invariant.7
+    subst (λ (n : Name). c.self.inside.number < n.origin.config.places) known.1.0 c.self.invariant.7
 
 -- the log by which it was told is the client's
 pub invariant_of-self-then-begins : goal.invariant_of-self-then-begins
@@ -24,9 +24,9 @@ invariant_of-self-then-begins g c =
     let seen : Prefix = c.in-Some-found.prefix in
     let some : c.self.inside.reader ≡ Some c.in-Some.reader = sym c.take.ensures.value ∙ c.in-Some.is in
     let known : Remembers me (knowledge c.in-Some.reader.place) = subst (HasReader (λ r. Remembers me (knowledge r.place))) some c.self.invariant.3 in
-    let found : IsLater (knowledge c.in-Some.reader.place).prefix seen × (knowledge c.look_up-reader.result.0.place ≡ has_seen seen) × (c.in-Some-found.status ≡ recent_outcome seen.name.config seen.log c.self.inside.number c.args.number) =
-    subst (λ o. MatchOption o (knowledge c.look_up-reader.result.0.place ≡ knowledge c.in-Some.reader.place) (λ (p : Prefix × SubmissionStatus). IsLater (knowledge c.in-Some.reader.place).prefix p.0 × (knowledge c.look_up-reader.result.0.place ≡ has_seen p.0) × (p.1 ≡ recent_outcome p.0.name.config p.0.log c.self.inside.number c.args.number))) c.in-Some-found.is c.look_up-reader.ensures in
+    let found : IsLater (knowledge c.in-Some.reader.place).prefix seen × (knowledge c.look_up-reader.result.0.place ≡ has_seen seen) × (c.in-Some-found.status ≡ recent_outcome seen.name.origin seen.log c.self.inside.number c.args.number) =
+    subst (λ o. MatchOption o (knowledge c.look_up-reader.result.0.place ≡ knowledge c.in-Some.reader.place) (λ (p : Prefix × SubmissionStatus). IsLater (knowledge c.in-Some.reader.place).prefix p.0 × (knowledge c.look_up-reader.result.0.place ≡ has_seen p.0) × (p.1 ≡ recent_outcome p.0.name.origin p.0.log c.self.inside.number c.args.number))) c.in-Some-found.is c.look_up-reader.ensures in
     let name : seen.name ≡ me.name = found.0.0 ∙ sym known.1.0 in
     let reader : Remembers seen (knowledge c.look_up-reader.result.0.place) = subst (Remembers seen) (sym found.1) (refl, later_self seen) in
-    let place : c.self.inside.number < seen.name.config.places = subst (λ (n : Name). c.self.inside.number < n.config.places) (sym name) c.self.invariant.7 in
+    let place : c.self.inside.number < seen.name.origin.config.places = subst (λ (n : Name). c.self.inside.number < n.origin.config.places) (sym name) c.self.invariant.7 in
     (c.self.invariant.0, c.self.invariant.1, c.self.invariant.2 ∙ sym name, reader, begun_later me seen c.self.inside.begun name c.if-begins.ensures c.self.invariant.4, c.self.invariant.5, c.self.invariant.6, place, c.self.invariant.8)

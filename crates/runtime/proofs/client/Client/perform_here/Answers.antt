@@ -35,8 +35,8 @@ invariant_of-self-2 g c =
       begun_on c.self.inside.me c.longer.result c.in-Some.open_tx after over name c.longer.ensures.this refl c.perform_open_at-reader.ensures.over c.perform_open_at-reader.ensures.version,
       i.5,
       i.6,
-      subst (λ (n : Name). c.self.inside.number < n.config.places) (sym name) i.7,
-      subst (λ (number : ℕ). IsKnown number (log_map c.in-Some.open_tx.prefix.name.config c.in-Some.open_tx.prefix.log) c.perform_open_at-reader.new.known.store c.perform_open_at-reader.new.tx) (sym c.perform_open_at-reader.ensures.store)
+      subst (λ (n : Name). c.self.inside.number < n.origin.config.places) (sym name) i.7,
+      subst (λ (number : ℕ). IsKnown number (log_map c.in-Some.open_tx.prefix.name.origin c.in-Some.open_tx.prefix.log) c.perform_open_at-reader.new.known.store c.perform_open_at-reader.new.tx) (sym c.perform_open_at-reader.ensures.store)
           c.perform_open_at-reader.ensures.known,
     )
 

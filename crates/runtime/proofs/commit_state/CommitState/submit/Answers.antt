@@ -22,13 +22,13 @@ invariant_of-self c =
     let n : Name = c.self.inside.publisher.name in
     let log : List Entry = c.self.inside.publisher.published ++ c.self.inside.publisher.pending in
     let last : List ℕ = c.self.inside.last.items in
-    let old : whole c.self.inside.pipeline ≡ pipeline_of n.config log = subst (IsInFlight n log (whole c.self.inside.pipeline)) c.in-Idle.is i.2 in
+    let old : whole c.self.inside.pipeline ≡ pipeline_of n.origin log = subst (IsInFlight n log (whole c.self.inside.pipeline)) c.in-Idle.is i.2 in
     let num : is_numbered last log ≡ true = subst (λ f. is_numbered last (due_of f log) ≡ true) c.in-Idle.is i.3 in
     let are : AreGiven last log = subst (λ f. AreGiven last (due_of f log)) c.in-Idle.is i.4 in
     let counted : AreCounted last log = subst (λ f. AreCounted last (due_of f log)) c.in-Idle.is i.5 in
-    let law : IsWellFormedLog n.config log = subst (λ (r : Prefix). IsWellFormedLog r.name.config r.log) i.1 c.len.ensures.well_formed in
+    let law : IsWellFormedLog n.origin log = subst (λ (r : Prefix). IsWellFormedLog r.name.origin r.log) i.1 c.len.ensures.well_formed in
     let begins : IsPrefix c.args.prefix.now.log log = subst (λ (r : Prefix). IsPrefix c.args.prefix.now.log r.log) i.1 c.if-not-begins.ensures in
-    let over : IsOpenOver n.config c.args.prefix.now.log c.args.request c.args.trace = subst (λ (h : CommitView). IsOpenOver h.name.config c.args.prefix.now.log c.args.request c.args.trace) (sym c.self.view_is) c.requires.open in
+    let over : IsOpenOver n.origin c.args.prefix.now.log c.args.request c.args.trace = subst (λ (h : CommitView). IsOpenOver h.name.origin c.args.prefix.now.log c.args.request c.args.trace) (sym c.self.view_is) c.requires.open in
     let some = subst (λ (h : CommitView). (c.in_ok-number.number ≡ slice_index h.last c.args.client + 1) × (c.args.client < length h.last)) (sym c.self.view_is) (c.in_ok-number.ensures.next, c.in_ok-number.ensures.client) in
     let next : c.in_ok-number.number ≡ slice_index last c.args.client + 1 = some.0 in
     let above : slice_index last c.args.client < c.in_ok-number.number = omega (arith, next) in
@@ -52,13 +52,13 @@ invariant_of-self-in-Err-Unknown c =
     let n : Name = c.self.inside.publisher.name in
     let log : List Entry = c.self.inside.publisher.published ++ c.self.inside.publisher.pending in
     let last : List ℕ = c.self.inside.last.items in
-    let old : whole c.self.inside.pipeline ≡ pipeline_of n.config log = subst (IsInFlight n log (whole c.self.inside.pipeline)) c.in-Idle.is i.2 in
+    let old : whole c.self.inside.pipeline ≡ pipeline_of n.origin log = subst (IsInFlight n log (whole c.self.inside.pipeline)) c.in-Idle.is i.2 in
     let num : is_numbered last log ≡ true = subst (λ f. is_numbered last (due_of f log) ≡ true) c.in-Idle.is i.3 in
     let are : AreGiven last log = subst (λ f. AreGiven last (due_of f log)) c.in-Idle.is i.4 in
     let counted : AreCounted last log = subst (λ f. AreCounted last (due_of f log)) c.in-Idle.is i.5 in
-    let law : IsWellFormedLog n.config log = subst (λ (r : Prefix). IsWellFormedLog r.name.config r.log) i.1 c.len.ensures.well_formed in
+    let law : IsWellFormedLog n.origin log = subst (λ (r : Prefix). IsWellFormedLog r.name.origin r.log) i.1 c.len.ensures.well_formed in
     let begins : IsPrefix c.args.prefix.now.log log = subst (λ (r : Prefix). IsPrefix c.args.prefix.now.log r.log) i.1 c.if-not-begins.ensures in
-    let over : IsOpenOver n.config c.args.prefix.now.log c.args.request c.args.trace = subst (λ (h : CommitView). IsOpenOver h.name.config c.args.prefix.now.log c.args.request c.args.trace) (sym c.self.view_is) c.requires.open in
+    let over : IsOpenOver n.origin c.args.prefix.now.log c.args.request c.args.trace = subst (λ (h : CommitView). IsOpenOver h.name.origin c.args.prefix.now.log c.args.request c.args.trace) (sym c.self.view_is) c.requires.open in
     let some = subst (λ (h : CommitView). (c.in_ok-number.number ≡ slice_index h.last c.args.client + 1) × (c.args.client < length h.last)) (sym c.self.view_is) (c.in_ok-number.ensures.next, c.in_ok-number.ensures.client) in
     let next : c.in_ok-number.number ≡ slice_index last c.args.client + 1 = some.0 in
     let above : slice_index last c.args.client < c.in_ok-number.number = omega (arith, next) in
@@ -74,12 +74,12 @@ pub returns-in-Ok-clause-told : goal.returns-in-Ok-clause-told
 returns-in-Ok-clause-told c =
     let n : Name = c.self.inside.publisher.name in
     let log : List Entry = c.self.inside.publisher.published ++ c.self.inside.publisher.pending in
-    let old : whole c.self.inside.pipeline ≡ pipeline_of n.config log = subst (IsInFlight n log (whole c.self.inside.pipeline)) c.in-Idle.is c.self.invariant.2 in
+    let old : whole c.self.inside.pipeline ≡ pipeline_of n.origin log = subst (IsInFlight n log (whole c.self.inside.pipeline)) c.in-Idle.is c.self.invariant.2 in
     let e : Entry = entry c.args.client c.in_ok-number.number c.args.request c.args.trace in
-    let next = commit_next n.config log e (whole c.self.inside.pipeline) (whole c.commit.new.self) c.in-Ok.reported old (ap whole c.in-Ok.ensures.handled) c.in-Ok.ensures.decided in
+    let next = commit_next n.origin log e (whole c.self.inside.pipeline) (whole c.commit.new.self) c.in-Ok.reported old (ap whole c.in-Ok.ensures.handled) c.in-Ok.ensures.decided in
     let due : due_of c.self.inside.in_flight log ≡ log = ap (λ f. due_of f log) c.in-Idle.is in
-    subst (λ (h : CommitView). c.in-Ok.reported ≡ told (cause_next h.name.config h.due c.args.request) (version_of h.name.config h.due + 1)) c.self.view_is
-    (subst (λ (l : List Entry). c.in-Ok.reported ≡ told (cause_next n.config l c.args.request) (version_of n.config l + 1)) (sym due) next.1)
+    subst (λ (h : CommitView). c.in-Ok.reported ≡ told (cause_next h.name.origin h.due c.args.request) (version_of h.name.origin h.due + 1)) c.self.view_is
+    (subst (λ (l : List Entry). c.in-Ok.reported ≡ told (cause_next n.origin l c.args.request) (version_of n.origin l + 1)) (sym due) next.1)
 
 pub returns-in-Ok-clause-taken : goal.returns-in-Ok-clause-taken
 returns-in-Ok-clause-taken c =

@@ -13,5 +13,5 @@ returns-clause-safe g c =
     let named : log.name ≡ o.state.name = subst (λ (v : LockedView g.row.E.Denot). log.name ≡ v.state.name) (sym c.self.view_is) c.requires in
     let seen : c.prefix.result ≡ log_prefix o.state.name o.state.published = c.prefix.ensures in
     rw (← c.self.view_is)
-    (safe_if e.may_leave e.is_log c.begins-2.result (IsPrefix log.log c.prefix.result.log) (IsPrefix c.prefix.result.log log.log) (o.state.name.kept ≡ true → IsSafe e.may_leave e.is_log log.name.config log.log o.end) c.begins-2.ensures
+    (safe_if e.may_leave e.is_log c.begins-2.result (IsPrefix log.log c.prefix.result.log) (IsPrefix c.prefix.result.log log.log) (o.state.name.kept ≡ true → IsSafe e.may_leave e.is_log log.name.origin log.log o.end) c.begins-2.ensures
     (λ upto kept. safe_seen e.may_leave e.is_log e.has o.keeping o.state o.waiting.items o.end log g.met.E.End.leaves c.self.invariant named (subst (λ (p : Prefix). IsPrefix log.log p.log) seen upto) kept))
