@@ -1,3 +1,4 @@
 mod Walks
 pub mod Steps
 pub mod Stays
+pub mod Sendable

@@ -3,4 +3,3 @@ pub mod Completing
 pub mod Querying
 pub use Rattle.runtime.proofs.RunAttempts
 pub use Rattle.runtime.proofs.Sendable
-pub mod Lending

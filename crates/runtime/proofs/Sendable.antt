@@ -1,7 +1,10 @@
 -- The locked state and a client may go to another thread, since nothing that they own is bound to one.
+use base.Fml.{Lft}
 use denote.RattleType.{RattleType}
-use denote.Param.Send.{IsSend, sendable, struct_send, recorded_send, view_send}
+use denote.Ref.{MutRef}
+use denote.Param.Send.{IsSend, mut_send, sendable, struct_send, recorded_send, view_send}
 use denote.Struct.Declared.{shape}
+use mir.Syntax.{Lifetime}
 use Rattle.std.proofs.Crossing.{crosses, Arc-send}
 use Rattle.std.proofs.alloc.Global.TheSendSync as heap
 use Rattle.kv_core.proofs.bytes.Bytes.TheSendSync as bytes
@@ -120,3 +123,8 @@ client_send E g s =
         ),
       ),
     )))
+
+-- and so may one that is lent
+pub lent_send :
+    (E : RattleType) (g : Ghosts E.Denot) (ℓ : Lifetime) (κ : Lft) → IsSend E → IsSend (MutRef ℓ κ (Client.the_row E g))
+lent_send E g ℓ κ s = mut_send ℓ κ _ (client_send E g s)

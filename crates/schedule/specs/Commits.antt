@@ -25,7 +25,3 @@ committed_store number commits version = committed_over no_stores number commits
 abbrev pub view_over : Stores → List CommitEntry → Open → Serial
 view_over before commits open_now =
     effects (committed_over before open_now.store commits open_now.read_version) (accepted open_now.attempts)
-
--- so it is where there was no store at first
-abbrev pub view : List CommitEntry → Open → Serial
-view commits open_now = view_over no_stores commits open_now

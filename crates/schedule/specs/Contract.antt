@@ -32,7 +32,7 @@ use Rattle.record_store.specs.Store.{Serial}
 use Rattle.schedule.specs.Serve.{effect}
 use Rattle.schedule.specs.Past.{Past, Attempt, Open, Submission, accepted}
 use Rattle.schedule.specs.Past.{is_accepted, is_changed, kept_plan, open_of, submitted_in}
-use Rattle.schedule.specs.Holds.{HoldsAll, Stores, no_stores}
+use Rattle.schedule.specs.Holds.{HoldsAll, Stores}
 use Rattle.schedule.specs.Commits.{committed_over}
 use Rattle.schedule.specs.Standing.{cluster_from, commits_of, listed}
 
@@ -194,10 +194,6 @@ LeavesAll first requests past step reply = Unit {0}
 -- a map holds of each store what is committed at a version, where these were there at first, and nothing else
 abbrev pub HoldsOver : Stores → List CommitEntry → ℕ → Map → Type 0
 HoldsOver before commits version m = HoldsAll m (λ number. committed_over before number commits version)
-
--- so it is where there was no store at first
-abbrev pub HoldsAt : List CommitEntry → ℕ → Map → Type 0
-HoldsAt commits version m = HoldsOver no_stores commits version m
 
 -- HOLDS: at each version from the start to the last reported one the database holds what is committed there
 abbrev pub HoldsCommitted : Stores → ClusterState → List CommitEntry → Type 0

@@ -70,10 +70,6 @@ pub record HeadlineOver (before : Stores) (maps : ℕ → Map) (commits : List C
       (number : ℕ) → is_store_number number ≡ true → (version : ℕ) → first ≤ version → version ≤ last →
       HasExactIndexes number (maps version) (committed_over before number commits version)
 
--- HEADLINE: so it is where there was no store at first
-abbrev pub Headline : (ℕ → Map) → List CommitEntry → ℕ → ℕ → (Open → Type 0) → Type 0
-Headline maps commits first last Was = HeadlineOver no_stores maps commits first last Was
-
 -- one of the clients had the transaction open after one of the steps
 abbrev pub WasOpen : Past → Open → Type 0
 WasOpen [] transaction = ⊥

@@ -2,7 +2,7 @@ use denote.Param.Send.{sendable}
 use Rattle.std.proofs.Crossing.{crosses}
 use Rattle.journal.proofs.journal.Journal.TheSendSync as journal
 use Rattle.commit_log.proofs.device_log.DeviceLog.TheSendSync as log
-use Rattle.bench_kept.proofs.Jobs.{device_send}
+use Rattle.journal_file.proofs.Sendable.{device_send}
 use Rattle.bench_kept.proofs.threads.run.Goals as goal
 
 pub counted-requires-send-E : goal.counted-requires-send-E

@@ -2,7 +2,7 @@ use denote.Param.{param}
 use denote.Param.Send.{sendable}
 use Rattle.std.proofs.Crossing.{crosses}
 use Rattle.std.proofs.alloc.Global.TheSendSync as heap
-use Rattle.record_layer.proofs.Lending.{lent_send}
+use Rattle.record_layer.proofs.Sendable.{lent_send}
 use Rattle.example_threads.proofs.clerks.sell_beside.Goals as goal
 
 -- src/clerks.rt:142:24

@@ -3,7 +3,7 @@ use denote.Param.Send.{sendable}
 use Rattle.std.proofs.Crossing.{crosses}
 use Rattle.tuple_codec.proofs.Text.TheSendSync as text
 use Rattle.metadata.proofs.cells.Cells.TheSendSync as cells
-use Rattle.race.proofs.Lent.{lent_send}
+use Rattle.runtime.proofs.Sendable.{lent_send}
 use Rattle.race.proofs.racing.run_threads.Goals as goal
 
 pub join-first-requires-send-F : goal.join-first-requires-send-F

@@ -2,7 +2,7 @@ use denote.Param.{param}
 use denote.Param.Send.{sendable}
 use Rattle.std.proofs.Crossing.{crosses}
 use Rattle.std.proofs.alloc.Global.TheSendSync as heap
-use Rattle.test_replies.proofs.Lent.{lent_send}
+use Rattle.runtime.proofs.Sendable.{lent_send}
 use Rattle.test_replies.proofs.adding.add_beside.Goals as goal
 
 pub join-one-requires-send-F : goal.join-one-requires-send-F

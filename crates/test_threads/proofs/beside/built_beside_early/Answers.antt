@@ -3,7 +3,7 @@ use denote.Param.Send.{sendable}
 use Rattle.std.proofs.Crossing.{crosses}
 use Rattle.std.proofs.alloc.Global.TheSendSync as heap
 use Rattle.std.proofs.sync.atomic.AtomicBool.TheSendSync as flag
-use Rattle.test_threads.proofs.Lent.{lent_send}
+use Rattle.runtime.proofs.Sendable.{lent_send}
 use Rattle.test_threads.proofs.beside.built_beside_early.Goals as goal
 
 pub join-requires-send-F : goal.join-requires-send-F
