@@ -8,9 +8,9 @@
    with --whole all are. The lines that the record takes are printed as they come, so that a run that is cut short has
    told them.
 3. Beside it too: the tools' own tests, and the house's rules over the files as they stand (tools/house_rules).
-4. The cases of cases/, the examples and the program's edge, against both built programs (tools/program_tests), the
-   programs whose allocations fail in turn (tools/refused_growths), and random scripts of which a model tells what both
-   programs must reply (tools/model).
+4. The cases of cases/, the examples and the program's edge, against both built programs (tools/program_tests),
+   databases in folders that a service on threads opens (tools/folder_tests.py), the programs whose allocations fail in
+   turn (tools/refused_growths), and random scripts of which a model tells what both programs must reply (tools/model).
 
 The last line is 'N passed, M failed', and the status is 0 where M is 0.
 """
@@ -28,8 +28,9 @@ PROGRAMS = ["crates/recordctl/out/recordctl", "crates/recordctl/out/recordctl.by
 FAILING = [f"crates/{it}/out/{it}{end}" for it in ("test_memory", "test_commits", "test_replies")
            for end in ("", ".by-rattle")]
 TESTED_TOOLS = ("wrong_bodies", "house_rules", "quick_build", "model")
-PROGRAM_TESTS = (("the program", "program_tests", PROGRAMS), ("want of memory", "refused_growths", FAILING + PROGRAMS),
-                 ("the model", "model", PROGRAMS))
+FOLDERS = [f"crates/example_threads/out/example_threads{end}" for end in ("", ".by-rattle")] + PROGRAMS
+PROGRAM_TESTS = (("the program", "program_tests", PROGRAMS), ("folders", "folder_tests.py", FOLDERS),
+                 ("want of memory", "refused_growths", FAILING + PROGRAMS), ("the model", "model", PROGRAMS))
 # the minutes after which no aged edit is begun: on a slow machine the proofs alone take most of the gate's time
 AGED_MINUTES = "60"
 # the most gigabytes that the proof of a crate has taken

@@ -1,4 +1,6 @@
 // The transactions of the shop, and the threads on which clerks run them. Called by `main`.
+ghost use Rattle.std.specs.Prelude.{◌≡◌};
+ghost use Rattle.record_layer.specs.Runs.{Continues};
 
 use crate::books::{copies, make_store, save_copies};
 use record_layer::{Body, Client, CommandError, End, Error, Retry, Txn};
@@ -10,14 +12,23 @@ use std::thread::Threads;
 /// How often a transaction is tried.
 const ATTEMPTS: Retry = Retry { limit: 1_000 };
 
-/// The book that is sold, how many copies there are of it, and how many each clerk sells.
+/// The book that is sold, how many copies there are of it at first, and how many each clerk sells.
 pub(crate) const TITLE: &str = "Emma";
 
-pub(crate) const COPIES: i64 = 100;
+const COPIES: i64 = 100;
 
-pub(crate) const SOLD: i64 = 10;
+const SOLD: i64 = 10;
 
 /// Makes the store, with all copies of the book.
+fn make_shop<E: End>(alloc: Global, tx: &mut Txn<'_, E>) -> Result<(), CommandError>
+    ensures same_reference { tx.new.client.ghost_name ≡ tx.old.client.ghost_name }
+    ensures continues { Continues tx.old.client.now tx.new.client.now }
+{
+    tx.call(&make_store(alloc)?)?;
+    save_copies(alloc, tx, TITLE, COPIES)
+}
+
+/// Makes the store, with all copies of the book, where it isn't there yet.
 #[derive(Drop)]
 struct Fill {
     alloc: Global,
@@ -29,8 +40,10 @@ impl<E: End> Body<E> for Fill {
     ghost did = { λ body old result new after. Unit {0} };
 
     fn attempt(&mut self, tx: &mut Txn<'_, E>) -> Result<(), CommandError> {
-        tx.call(&make_store(self.alloc)?)?;
-        save_copies(self.alloc, tx, TITLE, COPIES)
+        if copies(self.alloc, tx, TITLE).is_ok() {
+            return Ok(());
+        }
+        make_shop(self.alloc, tx)
     }
 }
 
@@ -99,6 +112,11 @@ fn sell_each<E: End, R: Wait>(rt: &R, alloc: Global, client: &mut Client<E>) -> 
     Ok(sold)
 }
 
+/// What both sold, or why one of them didn't.
+fn both<E: Drop>(one: Result<i64, E>, other: Result<i64, E>) -> Result<(i64, i64), E> {
+    Ok((one?, other?))
+}
+
 /// Two clerks sell beside each other, each on a thread. Answers how many each of them sold.
 pub(crate) fn sell_beside<E: End + Send, R: Threads + Wait + Sync>(
     rt: &R,
@@ -111,5 +129,5 @@ pub(crate) fn sell_beside<E: End + Send, R: Threads + Wait + Sync>(
         || sell_each(rt, alloc, one),
         || sell_each(rt, alloc, other),
     );
-    Ok((one?, other?))
+    both(one, other)
 }
