@@ -27,7 +27,8 @@ use Rattle.logged_schedule.specs.Entries.{logged_as, newly_logged, reports_in, t
 use Rattle.logged_schedule.specs.declared.error.OpenError.{OpenError}
 use Rattle.logged_schedule.specs.declared.followed.Followed.{Followed}
 use Rattle.logged_schedule.specs.Keeping.{VersionsRise}
-use Rattle.logged_schedule.specs.Opening.{IsBegunAgain, from_version}
+use Rattle.logged_schedule.specs.Opening.{IsBegunAgain}
+use Rattle.replay.specs.Continuing.{from_version}
 use Rattle.logged_schedule.specs.Runs.{IsHeldLog, LosesNone, Run, first_in, past_in}
 use Rattle.logged_schedule.specs.Standing.{BeginsFollowed}
 use Rattle.logged_schedule.proofs.Even.{IsEven, drop_length}

@@ -27,7 +27,8 @@ use Rattle.logged_schedule.specs.Entries.{logged_in, newly_logged}
 use Rattle.logged_schedule.specs.Followed.{DoesFollow, IsFollowed}
 use Rattle.logged_schedule.specs.Following.{SubmitsOfClients}
 use Rattle.logged_schedule.specs.Keeping.{IsWithoutRoom, IsKeptStep, IsWithoutAnswer, KeepsRun, MayHaveLogged}
-use Rattle.logged_schedule.specs.Opening.{IsBegunAgain, IsOpenedAgain, config_after}
+use Rattle.logged_schedule.specs.Opening.{IsBegunAgain, IsOpenedAgain}
+use Rattle.replay.specs.Continuing.{config_after}
 use Rattle.logged_schedule.specs.Runs.{Run, done_as, first_in, past_in, told_as, with_step}
 use Rattle.logged_schedule.specs.Standing.{HasFollowed, StepsFollowed, device_with_log, run_over, schedule_of}
 use Rattle.logged_schedule.specs.Told.{stopped_by}

@@ -9,3 +9,4 @@ pub mod Answers
 pub mod Keeping
 pub mod Opening
 pub mod Laws
+pub use Rattle.replay.specs.Continuing

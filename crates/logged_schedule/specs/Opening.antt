@@ -1,10 +1,11 @@
 -- What opening a log gives.
-use Rattle.std.specs.Prelude.{ℕ, List, max}
+use Rattle.std.specs.Prelude.{ℕ, List}
 use Rattle.cluster_core.specs.Configuration.{first_cluster_over}
 use Rattle.cluster_core.specs.declared.answers.Config.{Config}
 use Rattle.command_log.specs.declared.entry.Entry.{Entry}
 use Rattle.journal.specs.declared.device.Device.{Ghosts}
-use Rattle.replay.specs.Logged.{last_version, log_database}
+use Rattle.replay.specs.Continuing.{config_after}
+use Rattle.replay.specs.Logged.{log_database}
 use Rattle.replay.specs.Replaying.{AreWrittenAs}
 use Rattle.schedule.specs.declared.reply.Reply.{Reply}
 use Rattle.schedule.specs.declared.step.Step.{Step}
@@ -15,18 +16,6 @@ use Rattle.logged_schedule.specs.declared.logged.LoggedSchedule.{LoggedSchedule}
 use Rattle.logged_schedule.specs.Keeping.{KeepsRun}
 use Rattle.logged_schedule.specs.Runs.{IsHeldLog}
 use Rattle.logged_schedule.specs.Standing.{BeginsFollowed, run_over}
-
--- the version at which a schedule begins over a log: the first one, or that of the last entry, if that is later
-abbrev pub start_after : ℕ → List Entry → ℕ
-start_after start entries = max start (last_version 0 entries)
-
--- a configuration with another first version
-abbrev pub from_version : ℕ → Config → Config
-from_version start config = record config { start = start }
-
--- the same, from the version of the last entry on
-abbrev pub config_after : List Entry → Config → Config
-config_after entries config = from_version (start_after config.start entries) config
 
 -- a schedule of a configuration has done these steps over what a lawful log comes to, whose stores it holds
 abbrev pub HasDoneOverLog : Config → List Step → List Reply → StepwiseState → Type 0

@@ -7,7 +7,8 @@ use Rattle.schedule.specs.declared.reply.Reply.{Reply}
 use Rattle.schedule.specs.declared.step.Step.{Step}
 use Rattle.script.specs.Script.{IsScript, explains_script}
 use Rattle.script.specs.declared.error.ScriptError.TheVariants as errors
-use Rattle.logged_schedule.specs.Opening.{HasDoneOverLog, from_version}
+use Rattle.logged_schedule.specs.Opening.{HasDoneOverLog}
+use Rattle.logged_schedule.specs.Continuing.{from_version}
 use Rattle.logged_schedule.specs.declared.error.StepError.{StepError}
 use Rattle.logged_schedule.specs.declared.error.StepError.TheVariants as unanswered
 use Rattle.recordctl.specs.declared.run.Begun.{Begun}

@@ -1,5 +1,6 @@
 pub mod Commands
 pub mod Logged
+pub mod Continuing
 pub mod Replaying
 pub mod ImageCode
 pub mod Laws

@@ -8,7 +8,8 @@ use Rattle.schedule.specs.declared.step.Step.{Step}
 use Rattle.schedule.specs.declared.reply.Reply.{Reply}
 use Rattle.schedule.specs.Stepwise.{DoesNext, HasDoneFrom, StepwiseState}
 use Rattle.logged_schedule.specs.declared.logged.LoggedSchedule.{LoggedSchedule}
-use Rattle.logged_schedule.specs.Opening.{IsOpenedAgain, start_after}
+use Rattle.logged_schedule.specs.Opening.{IsOpenedAgain}
+use Rattle.logged_schedule.specs.Continuing.{start_after}
 use Rattle.logged_schedule.specs.Standing.{schedule_of}
 use Rattle.shell.specs.Further.{HasDoneNext, IsAfter, IsFurther, IsOfStepsFrom, IsOfStepsOver}
 

@@ -5,7 +5,8 @@ use Rattle.cluster_core.specs.declared.answers.Config.{Config}
 use Rattle.schedule.specs.declared.step.Step.{Step}
 use Rattle.schedule.specs.declared.reply.Reply.{Reply}
 use Rattle.schedule.specs.Stepwise.{HasDoneFrom, StepwiseState}
-use Rattle.logged_schedule.specs.Opening.{HasDoneOverLog, from_version}
+use Rattle.logged_schedule.specs.Opening.{HasDoneOverLog}
+use Rattle.logged_schedule.specs.Continuing.{from_version}
 
 -- whatever steps were done before, these were done after them
 abbrev pub HasDoneNext : List Step → StepwiseState → StepwiseState → Type 0
