@@ -39,17 +39,25 @@ fn trade<E: End + Send, R: Threads + Wait + Sync>(
     })
 }
 
-/// Opens the database, and has its first two clients trade, where there are two.
-fn open_and_trade<R: Threads + Wait + Sync>(rt: &R, alloc: Global) -> Result<Option<Day>, Error> {
-    let mut clients = open(rt, alloc, Waits { rt }, &Config::single(alloc))?;
-    let Some((one, others)) = clients.as_mut_slice().split_first_mut() else {
+/// Has the first two clients trade, where there are two.
+fn trade_of<E: End + Send, R: Threads + Wait + Sync>(
+    rt: &R,
+    alloc: Global,
+    clients: &mut [Client<E>],
+) -> Result<Option<Day>, Error> {
+    let Some((one, others)) = clients.split_first_mut() else {
         return Ok(None);
     };
     let Some((other, _)) = others.split_first_mut() else {
         return Ok(None);
     };
-    let day = trade(rt, alloc, one, other)?;
-    Ok(Some(day))
+    Ok(Some(trade(rt, alloc, one, other)?))
+}
+
+/// Opens the database, and has its first two clients trade.
+fn open_and_trade<R: Threads + Wait + Sync>(rt: &R, alloc: Global) -> Result<Option<Day>, Error> {
+    let mut clients = open(rt, alloc, Waits { rt }, &Config::single(alloc))?;
+    trade_of(rt, alloc, clients.as_mut_slice())
 }
 
 /// The lines that tell a day.
@@ -73,14 +81,16 @@ fn demonstrate<R: Threads + Wait + Sync>(rt: &R, alloc: Global) -> Result<Vec<St
     }
 }
 
+fn print(rt: &HostRuntime, lines: &[String]) -> io::Result<ExitCode> {
+    for line in lines {
+        rt.println(line.as_str())?;
+    }
+    Ok(ExitCode::SUCCESS)
+}
+
 fn main(rt: HostRuntime) -> io::Result<ExitCode> {
     match demonstrate(&rt, rt.alloc()) {
-        Ok(lines) => {
-            for line in lines {
-                rt.println(line)?;
-            }
-            Ok(ExitCode::SUCCESS)
-        }
+        Ok(lines) => print(&rt, &lines),
         Err(error) => {
             rt.eprintln(error)?;
             Ok(ExitCode::FAILURE)

@@ -94,7 +94,7 @@ pub fn pairs_of(alloc: Global, map: &KvMap) -> Result<Vec<(Bytes, Bytes)>, Fail>
 }
 
 /// The database after the transaction at this place of the run.
-fn next(alloc: Global, image: Image, place: usize) -> Result<Image, Fail> {
+fn next(alloc: Global, mut image: Image, place: usize) -> Result<Image, Fail> {
     let asked = request(alloc, place)?;
     let version = image.version().wrapping_add(1);
     match image.perform(alloc, asked.store, asked.changes) {
