@@ -8,6 +8,7 @@ use crate::printing::refuse;
 use cluster_core::Config;
 use command_line::ShellWords;
 use shell::{Database, FolderError, RowForm, ShellError, Telling, Watch, run_shell};
+use std::alloc::AllocError;
 use std::fs::File;
 use std::io::{Read, Write};
 use std::process::ExitCode;
@@ -55,7 +56,7 @@ fn typed_database<H: Files<File = File> + AllocGlobal>(
     let config = Config::single(rt.alloc());
     match Database::new(rt.alloc(), &config) {
         Ok(empty) => database_in(rt, folder, config, empty),
-        Err(_) => Err(FolderError::OutOfMemory),
+        Err(_) => Err(FolderError::from(AllocError)),
     }
 }
 
