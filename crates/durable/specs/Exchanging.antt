@@ -13,7 +13,7 @@ use Rattle.replay.specs.Pairs.{all_pairs}
 use Rattle.replay.specs.Replaying.{Image}
 use Rattle.durable.specs.Heads.{checkpoint_bytes}
 
--- Private: the file stands for these byte strings from before, for none, or for these others
+-- the file stands for these byte strings from before, for none, or for these others
 abbrev pub IsRewritten : List (List ℕ) → List (List ℕ) → List ℕ → Type 0
 IsRewritten before after file = IsBeforeOrNone before file ⊎ StandsFor file after
 
@@ -25,15 +25,15 @@ pub record IsCheckpointOf (generation : ℕ) (image : Image) (batch : List (List
   pub few : length (all_pairs image.map) < 2 ^ 64
   pub keys : All (λ pair. length pair.0 < 2 ^ 64) (all_pairs image.map)
 
--- Private: a journal takes entries, and its file has none
+-- a journal takes entries, and its file has none
 pub record IsEmptied {D : Type 0} {G : Ghosts D} (seen : D → List ℕ) (may_leave : D → List ℕ → Type 0)
     (journal : Journal D G) : Type 0 where
   pub open_still : is_open journal ≡ true
   pub none : StandsFor (seen (device_of journal)) []
   pub durable : Only (seen (device_of journal)) (may_leave (device_of journal))
 
--- Private: why byte strings aren't put in the place of others: memory or room didn't suffice, and there is none now; or
--- the device failed, or memory ran out in it
+-- why byte strings aren't put in the place of others: memory or room didn't suffice, and there is none now; or the
+-- device failed, or memory ran out in it
 abbrev pub IsNotRewritten :
     {D : Type 0} {G : Ghosts D} → (D → List ℕ) → (D → List ℕ → Type 0) → (D → ℕ) → Bool → AppendError → D →
     Journal D G → Type 0

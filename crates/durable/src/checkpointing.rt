@@ -28,8 +28,25 @@ pub struct Checkpointed<D: Device> {
     ghost spare_open: { log_takes log ≡ true → takes_entries spare ≡ true },
 }
 
-// Puts these byte strings in the place of all that a journal has.
-fn rewrite<D: Device>(
+/// What a database over two devices is made of, so that another one can go on with it.
+#[derive(Drop)]
+pub struct CheckpointedParts<D: Device> {
+    /// What is committed.
+    pub image: Image,
+    /// The journal that has the log.
+    pub log: Journal<D>,
+    /// The other one.
+    pub spare: Journal<D>,
+    /// How many checkpoints its history has.
+    pub generation: u64,
+}
+
+/// Puts these byte strings in the place of all that a journal has.
+///
+/// It is refused with `Memory` where memory runs out, and with `Full` where they are longer than a
+/// file may be: the journal has nothing then, and goes on. Where the device failed, or memory ran
+/// out in it, a crash leaves what the file had, nothing, or these byte strings.
+pub fn rewrite<D: Device>(
     alloc: Global,
     journal: &mut Journal<D>,
     batch: &[Vec<u8>],
@@ -173,6 +190,34 @@ impl<D: Device> Checkpointed<D> {
             generation: _,
         } = self;
         (log.into_device(), spare.into_device())
+    }
+
+    /// What it is made of. Its journals take entries where it commits; else the image may be behind
+    /// the log.
+    pub fn into_parts(self) -> CheckpointedParts<D>
+        ensures image { result.image ≡ image_of self }
+        ensures log { device_of result.log ≡ log_device self }
+        ensures spare { device_of result.spare ≡ spare_device self }
+        ensures generation { result.generation ≡ generation_of self }
+        ensures ok { takes_commits self ≡ true → takes_entries result.log ≡ true }
+        ensures spare_ok { takes_commits self ≡ true → takes_entries result.spare ≡ true }
+    {
+        let Checkpointed {
+            log,
+            spare,
+            generation,
+        } = self;
+        let Durable {
+            image,
+            journal,
+            is_open: _,
+        } = log;
+        CheckpointedParts {
+            image,
+            log: journal,
+            spare,
+            generation,
+        }
     }
 
     /// Performs changes in one transaction, all or none, and answers once its entry is on the disk.

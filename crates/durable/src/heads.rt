@@ -1,5 +1,5 @@
 // What stands before a log that goes on from a checkpoint: a head, and pairs. Called by
-// `checkpointing` and `reopening`.
+// `checkpointing` and `reopening`, and by a schedule with a log on two devices.
 ghost use Rattle.std.specs.Prelude.{◌≡◌, ◌<◌, ◌≤◌, ◌^◌, ◌++◌, All, IfOk, MatchOption, OnOk};
 ghost use Rattle.std.specs.Prelude.{length, map};
 ghost use Rattle.std.specs.Option.{option_map};
@@ -59,8 +59,9 @@ fn push_pairs(alloc: Global, made: &mut Vec<Vec<u8>>, pairs: &[Pair]) -> Result<
     Ok(())
 }
 
-/// The byte strings of a checkpoint of this generation: its head and its pairs.
-pub(crate) fn bytes_of_checkpoint(
+/// The byte strings of a checkpoint of this generation: its head, with the version of the last
+/// transaction before it, and its pairs. Fails only where memory runs out.
+pub fn bytes_of_checkpoint(
     alloc: Global,
     generation: u64,
     version: u64,

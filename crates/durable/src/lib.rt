@@ -10,11 +10,12 @@ mod opening;
 mod reopening;
 mod request;
 
-pub use checkpointing::Checkpointed;
+pub use checkpointing::{Checkpointed, CheckpointedParts, rewrite};
 pub use database::Durable;
 pub use error::{
     CheckpointError, CommitError, OpenError, ReopenError, Uncommitted, Unopened, UnopenedTwo,
 };
+pub use heads::bytes_of_checkpoint;
 pub use opening::open;
 pub use reopening::open_two;
 pub use request::{Committed, Request};
