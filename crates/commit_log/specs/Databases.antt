@@ -18,7 +18,7 @@ use Rattle.runtime.specs.declared.answers.OpenError.TheVariants as opens
 
 -- these are the clients of a database of this configuration that goes on from entries, from the version of the last one
 -- on or from a later one, and that keeps what is committed; none of them has seen anything of it
-pub record GoesOn (config : Config) (entries : List Entry) (clients : List Knowledge) : Type 0 where
+pub record AreClientsOver (config : Config) (entries : List Entry) (clients : List Knowledge) : Type 0 where
   pub name : Name
   pub origin : name.origin ≡ origin_of (config_after entries config) entries
   pub may_begin : MayBegin name.origin
@@ -28,16 +28,16 @@ pub record GoesOn (config : Config) (entries : List Entry) (clients : List Knowl
 -- OPENED: the device's file has the log of some entries, and as the database began it had their log, all of it on the
 -- disk; a crash before then leaves a file that is read alike, or what one might have left before; and these are the
 -- clients of a database that goes on from the entries
-pub record IsOpened {D : Type 0} (seen : D → List ℕ) (may_leave : D → List ℕ → Type 0) (moment : D → ℕ)
+pub record IsOpenedOn {D : Type 0} (seen : D → List ℕ) (may_leave : D → List ℕ → Type 0) (moment : D → ℕ)
     (left_since : D → ℕ → List ℕ → Type 0) (config : Config) (device : D) (clients : List Knowledge) : Type 0 where
   pub entries : List Entry
   pub had : HasLogOf no_base (seen device) entries
   pub begun : D
   pub has : HasOnDisk seen may_leave no_base entries begun
   pub any_moment : LeavesOnly moment left_since device begun (IsAsBefore (may_leave device) (seen device))
-  pub goes_on : GoesOn config entries clients
+  pub over : AreClientsOver config entries clients
 
--- Private: there was no place for a reader, memory ran out, or the configuration is refused
+-- there was no place for a reader, memory ran out, or the configuration is refused
 abbrev pub IsNoneMade : Config → OpenError → Type 0
 IsNoneMade config opens.NoPlace = ⊤
 IsNoneMade config opens.Memory = ⊤
@@ -50,7 +50,7 @@ IsWhyUnopened config faults faults_now file (Database error) = IsNoneMade config
 
 -- none is opened, for a reason; a crash before the device was let go leaves a file that is read alike, or what one
 -- might have left before
-pub record IsUnopened {D : Type 0} (seen : D → List ℕ) (may_leave : D → List ℕ → Type 0) (moment : D → ℕ)
+pub record IsUnopenedOn {D : Type 0} (seen : D → List ℕ) (may_leave : D → List ℕ → Type 0) (moment : D → ℕ)
     (left_since : D → ℕ → List ℕ → Type 0) (faults : D → ℕ) (config : Config) (device : D) (error : NotOpened) :
     Type 0 where
   pub ended : D

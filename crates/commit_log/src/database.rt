@@ -1,7 +1,7 @@
 // Opens a running database from the device that has its log.
 ghost use Rattle.std.specs.Prelude.{IfErr, IfOk, IsNone, OnOk};
 ghost use Rattle.cluster_core.specs.Configuration.{config_refusal};
-ghost use Rattle.commit_log.specs.Databases.{GoesOn, IsNoneMade, IsOpened, IsUnopened};
+ghost use Rattle.commit_log.specs.Databases.{AreClientsOver, IsNoneMade, IsOpenedOn, IsUnopenedOn};
 ghost use Rattle.commit_log.specs.Standing.{device_of_log};
 ghost use Rattle.durable.specs.Keeping.{HasOnDisk, no_base};
 ghost use Rattle.replay.specs.Replaying.{IsLogged};
@@ -38,7 +38,7 @@ fn gone_on<D: Device + Drop, E: Wait + Drop, R: Wait>(
         (device_of_log opened.log) }
     requires logged { IsLogged opened.entries.items opened.image }
     ensures clients { IfOk result (λ clients.
-        GoesOn config opened.entries.items clients.items) }
+        AreClientsOver config opened.entries.items clients.items) }
     ensures allowed { OnOk result (IsNone (config_refusal config)) }
     ensures refused { IfErr result (IsNoneMade config) }
 {
@@ -67,12 +67,12 @@ pub fn open_kept_on<'a, D: Device + Drop, R: Wait>(
 ) -> Result<Vec<Client<DeviceLog<D, &'a R>>>, NotOpened>
     // The database goes on from the entries of the file, whose log goes on after them.
     ensures opened { IfOk result (λ clients.
-        IsOpened D.seen D.may_leave D.moment D.left_since config device clients.items) }
+        IsOpenedOn D.seen D.may_leave D.moment D.left_since config device clients.items) }
     ensures allowed { OnOk result (IsNone (config_refusal config)) }
 
     // The log of a database is never refused, but where memory runs out or the device fails.
     ensures refused { IfErr result (λ error.
-        IsUnopened D.seen D.may_leave D.moment D.left_since D.faults config device error) }
+        IsUnopenedOn D.seen D.may_leave D.moment D.left_since D.faults config device error) }
 {
     match open_log(rt, alloc, device) {
         Ok(opened) => match gone_on(rt, alloc, opened, config) {

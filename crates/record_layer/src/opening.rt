@@ -2,7 +2,7 @@
 ghost use Rattle.std.specs.Prelude.{IfOk, IsNone, List, OnOk};
 ghost use Rattle.cluster_core.specs.Configuration.{config_refusal};
 ghost use Rattle.command_log.specs.declared.entry.Entry.{Entry};
-ghost use Rattle.commit_log.specs.Databases.{GoesOn};
+ghost use Rattle.commit_log.specs.Databases.{AreClientsOver};
 
 use cluster_core::Config;
 use commit_log::{DeviceLog, NotOpened, open_kept_on};
@@ -56,7 +56,7 @@ pub fn open_at<'a, R: Wait + Files<File = File>>(
     // What the file has is for the system to say. Whatever it has, the clients are those of a
     // database that goes on from a lawful log.
     ensures opened { IfOk result (λ clients.
-        (entries : List Entry) × GoesOn config entries clients.items) }
+        (entries : List Entry) × AreClientsOver config entries clients.items) }
     ensures allowed { OnOk result (IsNone (config_refusal config)) }
 {
     let device = open_in_folder(rt, alloc, folder)?;

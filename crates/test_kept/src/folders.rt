@@ -108,7 +108,7 @@ fn fill<R: Files<File = File>>(rt: &R, alloc: Global, path: &str) -> Result<(), 
 }
 
 /// Puts another byte into a file, within its first block.
-fn damage<R: Files<File = File>>(rt: &R, path: &str) -> Result<(), Fail> {
+fn damage(rt: &HostRuntime, path: &str) -> Result<(), Fail> {
     let mut bytes = fs::read(rt, path)?;
     let byte = bytes.get_mut(100).ok_or("a byte")?;
     *byte = if *byte == 1 { 2 } else { 1 };
