@@ -28,6 +28,7 @@ pub enum NotOpened {
 }
 
 /// The clients of a database that goes on from a log.
+#[tactic(auto, using(crate::proofs::Databases::databases))]
 fn gone_on<D: Device + Drop, E: Wait + Drop, R: Wait>(
     rt: &R,
     alloc: Global,
@@ -59,6 +60,7 @@ fn gone_on<D: Device + Drop, E: Wait + Drop, R: Wait>(
 ///
 /// Its first version is that of the configuration, or that of the last transaction of the log, if
 /// that is later. Where it is refused, the device is let go.
+#[tactic(auto, using(crate::proofs::Databases::databases))]
 pub fn open_kept_on<'a, D: Device + Drop, R: Wait>(
     rt: &'a R,
     alloc: Global,
