@@ -4,3 +4,4 @@ pub mod Querying
 pub use Rattle.runtime.proofs.RunAttempts
 pub use Rattle.runtime.proofs.Sendable
 pub mod Folders
+pub mod Opening

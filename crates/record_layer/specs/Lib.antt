@@ -4,6 +4,7 @@ pub mod Databases
 pub mod Lent
 pub mod Sessions
 pub mod Working
+pub mod Opening
 pub use Rattle.cluster_core.specs.Cluster
 pub use Rattle.cluster_core.specs.Configuration
 pub use Rattle.cluster_core.specs.Roles

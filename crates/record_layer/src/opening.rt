@@ -1,8 +1,9 @@
 // The running database in a folder, which outlives its process. Called by applications.
-ghost use Rattle.std.specs.Prelude.{IfOk, IsNone, List, OnOk};
+ghost use Rattle.std.specs.Prelude.{IfErr, IfOk, IsNone, List, OnOk};
 ghost use Rattle.cluster_core.specs.Configuration.{config_refusal};
 ghost use Rattle.command_log.specs.declared.entry.Entry.{Entry};
 ghost use Rattle.commit_log.specs.Databases.{AreClientsOver};
+ghost use Rattle.record_layer.specs.Opening.{IsWhyUnopenedAt};
 
 use cluster_core::Config;
 use commit_log::{DeviceLog, NotOpened, open_kept_on};
@@ -58,6 +59,7 @@ pub fn open_at<'a, R: Wait + Files<File = File>>(
     ensures opened { IfOk result (λ clients.
         (entries : List Entry) × AreClientsOver config entries clients.items) }
     ensures allowed { OnOk result (IsNone (config_refusal config)) }
+    ensures refused { IfErr result (IsWhyUnopenedAt config) }
 {
     let device = open_in_folder(rt, alloc, folder)?;
     match open_kept_on(rt, alloc, device, config) {
