@@ -10,14 +10,14 @@ use std::thread::Threads;
 /// How often a transaction is tried.
 const ATTEMPTS: Retry = Retry { limit: 1_000 };
 
-/// The book that is sold, how many copies there are of it, and how many each clerk sells.
+/// The book that is sold, how many copies there are of it at first, and how many each clerk sells.
 pub(crate) const TITLE: &str = "Emma";
 
-pub(crate) const COPIES: i64 = 100;
+const COPIES: i64 = 100;
 
-pub(crate) const SOLD: i64 = 10;
+const SOLD: i64 = 10;
 
-/// Makes the store, with all copies of the book.
+/// Makes the store, with all copies of the book, where it isn't there yet.
 #[derive(Drop)]
 struct Fill {
     alloc: Global,
@@ -29,6 +29,9 @@ impl<E: End> Body<E> for Fill {
     ghost did = { λ body old result new after. Unit {0} };
 
     fn attempt(&mut self, tx: &mut Txn<'_, E>) -> Result<(), CommandError> {
+        if copies(self.alloc, tx, TITLE).is_ok() {
+            return Ok(());
+        }
         tx.call(&make_store(self.alloc)?)?;
         save_copies(self.alloc, tx, TITLE, COPIES)
     }

@@ -1,28 +1,31 @@
 //! Sells books from a store that threads share: opens a running database, has two clerks sell copies
-//! of the same book beside each other, and reads how many are left.
+//! of the same book beside each other, and reads how many are left. With the name of a folder,
+//! `example_threads DIR`, the database is in that folder, and goes on there.
 #![tactic(auto)]
 
 mod books;
 mod clerks;
 
-use clerks::{COPIES, TITLE, left, open_shop, sell_beside};
-use record_layer::{Client, Config, End, Error, Waits, open};
+use clerks::{TITLE, left, open_shop, sell_beside};
+use record_layer::{Client, Config, End, Error, Waits, open, open_at};
 use std::alloc::Global;
-use std::io;
+use std::fs::{File, Files};
 use std::process::ExitCode;
 use std::sync::Wait;
 use std::thread::Threads;
+use std::{env, io};
 
-/// What the clerks sold, and how many copies are left.
+/// How many copies there were, what the clerks sold, and how many are left.
 #[derive(Drop)]
 struct Day {
+    copies: i64,
     sold: i64,
     also_sold: i64,
     left: i64,
 }
 
 /// Opens the shop with a client of a database, has it sell there beside another one, and reads what
-/// is left.
+/// there was and what is left.
 fn trade<E: End + Send, R: Threads + Wait + Sync>(
     rt: &R,
     alloc: Global,
@@ -30,9 +33,11 @@ fn trade<E: End + Send, R: Threads + Wait + Sync>(
     other: &mut Client<E>,
 ) -> Result<Day, Error> {
     open_shop(rt, alloc, one)?;
+    let copies = left(rt, alloc, one)?;
     let (sold, also_sold) = sell_beside(rt, alloc, one, other)?;
     let left = left(rt, alloc, one)?;
     Ok(Day {
+        copies,
         sold,
         also_sold,
         left,
@@ -54,28 +59,51 @@ fn trade_of<E: End + Send, R: Threads + Wait + Sync>(
     Ok(Some(trade(rt, alloc, one, other)?))
 }
 
-/// Opens the database, and has its first two clients trade.
-fn open_and_trade<R: Threads + Wait + Sync>(rt: &R, alloc: Global) -> Result<Option<Day>, Error> {
-    let mut clients = open(rt, alloc, Waits { rt }, &Config::single(alloc))?;
+/// Has the first two clients of a database trade.
+fn first_trade<E: End + Send, R: Threads + Wait + Sync>(
+    rt: &R,
+    alloc: Global,
+    clients: Vec<Client<E>>,
+) -> Result<Option<Day>, Error> {
+    let mut clients = clients;
     trade_of(rt, alloc, clients.as_mut_slice())
+}
+
+/// Opens the database in this folder, or without one a new one in memory, and has its clients
+/// trade.
+fn open_and_trade<R: Threads + Wait + Files<File = File> + Sync>(
+    rt: &R,
+    alloc: Global,
+    folder: Option<&str>,
+) -> Result<Option<Day>, Error> {
+    let config = Config::single(alloc);
+    match folder {
+        Some(folder) => first_trade(rt, alloc, open_at(rt, alloc, folder, config)?),
+        None => first_trade(rt, alloc, open(rt, alloc, Waits { rt }, &config)?),
+    }
 }
 
 /// The lines that tell a day.
 fn lines(alloc: Global, day: &Day) -> Result<Vec<String>, Error> {
     let Day {
+        copies,
         sold,
         also_sold,
         left,
     } = day;
-    let mut lines = vec![in alloc; format!(in alloc; "{TITLE}: {COPIES} copies")?]?;
+    let mut lines = vec![in alloc; format!(in alloc; "{TITLE}: {copies} copies")?]?;
     lines.push(format!(in alloc; "two clerks sold {sold} and {also_sold} of them")?)?;
     lines.push(format!(in alloc; "{left} are left")?)?;
     Ok(lines)
 }
 
 /// Does all of it, and answers the lines that tell it.
-fn demonstrate<R: Threads + Wait + Sync>(rt: &R, alloc: Global) -> Result<Vec<String>, Error> {
-    match open_and_trade(rt, alloc)? {
+fn demonstrate<R: Threads + Wait + Files<File = File> + Sync>(
+    rt: &R,
+    alloc: Global,
+    folder: Option<&str>,
+) -> Result<Vec<String>, Error> {
+    match open_and_trade(rt, alloc, folder)? {
         Some(day) => lines(alloc, &day),
         None => Ok(vec![in alloc; String::from_str(alloc, "too few clients")?]?),
     }
@@ -89,7 +117,8 @@ fn print(rt: &HostRuntime, lines: &[String]) -> io::Result<ExitCode> {
 }
 
 fn main(rt: HostRuntime) -> io::Result<ExitCode> {
-    match demonstrate(&rt, rt.alloc()) {
+    let words: Vec<String> = env::args(&rt)?.collect(rt.alloc())?;
+    match demonstrate(&rt, rt.alloc(), words.get(1).map(|it| it.as_str())) {
         Ok(lines) => print(&rt, &lines),
         Err(error) => {
             rt.eprintln(error)?;

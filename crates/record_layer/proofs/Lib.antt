@@ -3,3 +3,5 @@ pub mod Completing
 pub mod Querying
 pub use Rattle.runtime.proofs.RunAttempts
 pub use Rattle.runtime.proofs.Sendable
+pub mod Folders
+pub mod Opening

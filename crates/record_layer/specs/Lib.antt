@@ -4,6 +4,7 @@ pub mod Databases
 pub mod Lent
 pub mod Sessions
 pub mod Working
+pub mod Opening
 pub use Rattle.cluster_core.specs.Cluster
 pub use Rattle.cluster_core.specs.Configuration
 pub use Rattle.cluster_core.specs.Roles
@@ -16,3 +17,4 @@ pub use Rattle.query.specs.Filter
 pub use Rattle.query.specs.View
 pub use Rattle.runtime.specs.Runs
 pub use Rattle.commits.specs.Holds
+pub use Rattle.commit_log.specs.Databases
