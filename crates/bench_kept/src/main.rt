@@ -1,12 +1,15 @@
 //! Clients of a running database on threads, whose commits are kept in a file: `bench_kept WAY FILE
-//! CLIENTS COMMITS` makes so many commits of one save each over a new file, and prints how many were
-//! told to be committed, and in how many microseconds; `bench_kept list FILE` prints those that a
-//! file has. The way is `together`, `alone`, which commits one at a time, or `told`, which prints the
-//! client and the number of each one that was told to be committed.
+//! CLIENTS COMMITS` makes so many commits of one save each over a new file, and prints how many
+//! were told to be committed, and in how many microseconds; `bench_kept list FILE` prints those
+//! that a file has. The way is `together`, `alone`, which commits one at a time, or `told`, which
+//! prints the client and the number of each one that was told to be committed. `bench_kept open
+//! FILE OTHER THOUSANDS` makes a database of so many thousands of records in two files, and prints
+//! how long its opening takes.
 #![tactic(auto)]
 
 mod commands;
 mod listing;
+mod opening;
 mod threads;
 
 use std::alloc::Global;
@@ -19,8 +22,8 @@ use std::{env, io};
 use threads::{Asked, Way};
 
 // What is printed where the command line names no work.
-const USAGE: &str =
-    "usage: bench_kept together|alone|told FILE CLIENTS COMMITS, or: bench_kept list FILE";
+const USAGE: &str = "usage: bench_kept together|alone|told FILE CLIENTS COMMITS, or: \
+    bench_kept open FILE OTHER THOUSANDS, or: bench_kept list FILE";
 
 // How commits are made, where the word says it.
 fn way(word: &str) -> Option<Way> {
@@ -53,6 +56,13 @@ fn runs<R: Threads + Wait + Clock + Print + Files<File = File> + Sync>(
                 return Ok(false);
             }
             listing::list(rt, alloc, path.as_str())?;
+            Ok(true)
+        }
+        [_, word, one, other, thousands] if word.as_str() == "open" => {
+            let Ok(thousands) = thousands.parse::<u64>() else {
+                return Ok(false);
+            };
+            opening::run(rt, alloc, one.as_str(), other.as_str(), thousands)?;
             Ok(true)
         }
         [_, word, path, clients, commits] => {
