@@ -13,3 +13,4 @@ pub mod Looking
 pub mod Limits
 pub mod Fitting
 pub mod Lawful
+pub mod TwoFiles

@@ -3,13 +3,16 @@ use Rattle.std.proofs.Common.{◌≡◌, ◌∙◌, ◌⊎◌, nat_lt, ℕ, ◌+
 use Rattle.std.specs.Prelude.{IfOk, Result, Ok, Err, map}
 use Rattle.std.proofs.lemmas.Bool.{ltb-true, ltb-false}
 use Rattle.std.proofs.lemmas.List.{length-append}
+use Rattle.std.specs.FinMap.{empty}
+use Rattle.kv_core.specs.Map.{Map}
 use Rattle.kv_core.specs.declared.change.CommitRequest.{CommitRequest}
 use Rattle.cluster_core.specs.declared.answers.Config.{Config}
 use Rattle.cluster_core.specs.Cluster.{ClusterState, pull, with_pipeline}
+use Rattle.cluster_core.specs.Configuration.{first_cluster_over}
 use Rattle.cluster_core.specs.Roles.{PipelineState, append, report, resolve}
 use Rattle.command_log.specs.declared.entry.Entry.{Entry}
 use Rattle.replay.specs.Logged.{ComeInOrder, IsLawfulLog, last_version, log_database}
-use Rattle.replay.specs.Replaying.{AreWrittenAs, Image, IsReplay}
+use Rattle.replay.specs.Replaying.{AreWrittenAs, Image, IsLogged, IsReplay}
 use Rattle.replay.proofs.Stores.{holds_nothing}
 use Rattle.schedule.specs.declared.reply.Reply.{Reply}
 use Rattle.schedule.specs.declared.reply.Reply.TheVariants as answers
@@ -28,7 +31,8 @@ use Rattle.logged_schedule.specs.declared.error.OpenError.{OpenError}
 use Rattle.logged_schedule.specs.declared.followed.Followed.{Followed}
 use Rattle.logged_schedule.specs.Keeping.{VersionsRise}
 use Rattle.logged_schedule.specs.Opening.{IsBegunAgain}
-use Rattle.replay.specs.Continuing.{from_version}
+use Rattle.replay.specs.Continuing.{config_after, from_version}
+use Rattle.logged_schedule.specs.Reopening.{IsBegunOverSome}
 use Rattle.logged_schedule.specs.Runs.{IsHeldLog, LosesNone, Run, first_in, past_in}
 use Rattle.logged_schedule.specs.Standing.{BeginsFollowed}
 use Rattle.logged_schedule.proofs.Even.{IsEven, drop_length}
@@ -42,7 +46,7 @@ rise_both : (version : ℕ) (some others : List Entry) → VersionsRise version 
 rise_both version [] others first last = last
 rise_both version (entry ∷ some) others first last = (first.0, rise_both entry.version some others first.1 last)
 
-last_both : (version : ℕ) (some others : List Entry) → last_version version (some ++ others) ≡ last_version (last_version version some) others
+pub last_both : (version : ℕ) (some others : List Entry) → last_version version (some ++ others) ≡ last_version (last_version version some) others
 last_both version [] others = refl
 last_both version (entry ∷ some) others = last_both entry.version some others
 
@@ -260,18 +264,41 @@ none_logged entries lawful zero_last = by_entries entries lawful.in_order zero_l
 
 -- ---- what begins over a log
 
--- a schedule over an empty database begins over a log that comes to version 0
-pub begun_on_none : (config : Config) (log bytes : List (List ℕ)) (image : Image) (last start : ℕ) (result : Result Followed OpenError) → IsReplay log image → log ≡ bytes → last ≡ image.version → last ≡ 0 → start ≡ max config.start last →
-    IfOk result (BeginsFollowed [] (from_version start config)) → IfOk result (IsBegunAgain config bytes)
-begun_on_none config log bytes image last start (Err error) replayed same is_last zero_last is_start begun = tt
-begun_on_none config log bytes image last start (Ok followed) replayed same is_last zero_last is_start begun =
+-- a schedule over an empty database begins over entries that come to version 0
+pub begun_on_none : (config : Config) (image : Image) (last start : ℕ) (result : Result Followed OpenError) → last ≡ image.version → last ≡ 0 → start ≡ max config.start last → IfOk result (BeginsFollowed [] (from_version start config)) →
+    IfOk result (λ followed. (entries : List Entry) → IsLogged entries image → BeginsFollowed entries (config_after entries config) followed)
+begun_on_none config image last start (Err error) is_last zero_last is_start begun = tt
+begun_on_none config image last start (Ok followed) is_last zero_last is_start begun = λ entries logged.
+    let ends : last ≡ last_version 0 entries = is_last ∙ logged.version in
+    subst₂ (λ es first. BeginsFollowed es (from_version first config) followed) (sym (none_logged entries logged.lawful (sym ends ∙ zero_last))) (is_start ∙ ap (max config.start) ends) begun
+
+-- and one over a database over the entries that come to that
+pub begun_on_some : (config : Config) (image : Image) (last start : ℕ) (result : Result Followed OpenError) → last ≡ image.version → start ≡ max config.start last →
+    IfOk result (λ followed. (entries : List Entry) → IsLogged entries image → BeginsFollowed entries (from_version start config) followed) →
+    IfOk result (λ followed. (entries : List Entry) → IsLogged entries image → BeginsFollowed entries (config_after entries config) followed)
+begun_on_some config image last start (Err error) is_last is_start begun = tt
+begun_on_some config image last start (Ok followed) is_last is_start begun = λ entries logged.
+    subst (λ first. BeginsFollowed entries (from_version first config) followed) (is_start ∙ ap (max config.start) (is_last ∙ logged.version)) (begun entries logged)
+
+-- what is replayed is lawful, and holds its stores
+pub begun_on_replay : (config : Config) (log bytes : List (List ℕ)) (image : Image) (result : Result Followed OpenError) → IsReplay log image → log ≡ bytes →
+    IfOk result (λ followed. (entries : List Entry) → IsLogged entries image → BeginsFollowed entries (config_after entries config) followed) → IfOk result (IsBegunAgain config bytes)
+begun_on_replay config log bytes image (Err error) replayed same begun = tt
+begun_on_replay config log bytes image (Ok followed) replayed same begun =
     let entries = replayed.entries in
     let logged = replayed.logged in
-    let ends : last ≡ last_version 0 entries = is_last ∙ logged.version in
-    let none : entries ≡ [] = none_logged entries logged.lawful (sym ends ∙ zero_last) in
     record {
       entries = entries;
       written = subst (λ l. AreWrittenAs l entries) same replayed.written;
       over = record { lawful = logged.lawful; holds = subst (λ m. HoldsAll m (log_database entries).stores) logged.map logged.holds };
-      follows = subst₂ (λ es first. BeginsFollowed es (from_version first config) followed) (sym none) (is_start ∙ ap (max config.start) ends) begun;
+      follows = begun entries logged;
     }
+
+-- over whatever it begins
+pub some_on_none : (config : Config) (start : ℕ) (result : Result Followed OpenError) → IfOk result (λ followed. HasDoneFrom (first_cluster_over empty (from_version start config)) [] [] followed.schedule) → IfOk result (λ followed. IsBegunOverSome config followed.schedule)
+some_on_none config start (Err error) begun = tt
+some_on_none config start (Ok followed) begun = (empty, start, begun)
+
+pub some_on_some : (config : Config) (start : ℕ) (result : Result Followed OpenError) → IfOk result (λ followed. (base : Map) × HasDoneFrom (first_cluster_over base (from_version start config)) [] [] followed.schedule) → IfOk result (λ followed. IsBegunOverSome config followed.schedule)
+some_on_some config start (Err error) begun = tt
+some_on_some config start (Ok followed) (base, begun) = (base, start, begun)

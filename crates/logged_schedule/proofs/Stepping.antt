@@ -1,6 +1,6 @@
 -- Steps that are followed, logged and answered, over plain values.
 use Rattle.std.proofs.Common.{◌≡◌, ℕ, ◌+◌, ◌^◌, ◌≤◌, ◌∙◌, List, [], ◌++◌, length, ap, sym, subst, append-nil, append_assoc, arith}
-use Rattle.std.specs.Prelude.{Result, Err, IsErrOf}
+use Rattle.std.specs.Prelude.{Result, Err, IsErrOf, unwrap_or}
 use Rattle.cluster_core.specs.Configuration.{first_cluster_over}
 use Rattle.cluster_core.specs.declared.answers.Config.{Config}
 use Rattle.command_log.specs.declared.entry.Entry.{Entry}
@@ -26,7 +26,7 @@ use Rattle.logged_schedule.specs.Answers.{IsStepAnswer}
 use Rattle.logged_schedule.specs.Entries.{logged_in, newly_logged}
 use Rattle.logged_schedule.specs.Followed.{DoesFollow, IsFollowed}
 use Rattle.logged_schedule.specs.Following.{SubmitsOfClients}
-use Rattle.logged_schedule.specs.Keeping.{IsWithoutRoom, IsKeptStep, IsWithoutAnswer, KeepsRun, MayHaveLogged}
+use Rattle.logged_schedule.specs.Keeping.{IsKeptStep, IsStoppedStep, IsWithoutRoom, KeepsRun, MayHaveLogged}
 use Rattle.logged_schedule.specs.Opening.{IsBegunAgain, IsOpenedAgain}
 use Rattle.replay.specs.Continuing.{config_after}
 use Rattle.logged_schedule.specs.Runs.{Run, done_as, first_in, past_in, told_as, with_step}
@@ -54,8 +54,9 @@ steps_followed step before stepped next notes run follows =
 
 pub is_answer : (step : Step) (before : Followed) (stepped : Stepped) (answer : Answer) → DoesNext (done_as step) stepped.reply before.schedule stepped.followed.schedule →
     DoesNext step (told_as step stepped.reply) before.schedule stepped.followed.schedule → StepsFollowed step before stepped →
-    answer.followed ≡ stepped.followed → answer.reply ≡ told_as step stepped.reply → AreWrittenAs (log_bytes answer.batch.items) stepped.told.items → IsStepAnswer step before answer
-is_answer step before stepped answer next told follows same is written = record {
+    answer.followed ≡ stepped.followed → answer.reply ≡ told_as step stepped.reply → AreWrittenAs (log_bytes answer.batch.items) stepped.told.items →
+    ((version : ℕ) → last_version version stepped.told.items ≡ unwrap_or answer.last version) → IsStepAnswer step before answer
+is_answer step before stepped answer next told follows same is written last = record {
   reply = stepped.reply;
   told = is;
   next = subst (λ (f : Followed). DoesNext (done_as step) stepped.reply before.schedule f.schedule) (sym same) next;
@@ -64,7 +65,44 @@ is_answer step before stepped answer next told follows same is written = record 
       (subst (λ r. DoesNext step r before.schedule stepped.followed.schedule) (sym is) told);
   follows = λ run done. subst (HasFollowed (with_step run (done_as step) stepped.reply)) (sym same) (follows run done).0;
   written = λ run done. subst (AreWrittenAs (log_bytes answer.batch.items)) (follows run done).1 written;
+  last = λ run done. subst (λ (es : List Entry). (version : ℕ) → last_version version es ≡ unwrap_or answer.last version) (follows run done).1 last;
 }
+
+-- ---- a step that isn't answered
+
+module _ {D : Type 0} (seen : D → List ℕ) (moment : D → ℕ) (left_since : D → ℕ → List ℕ → Type 0) where
+  -- why it isn't answered, where a crash leaves this of what it committed
+  pub unanswered : (Leaves : List Entry → List ℕ → Type 0) (run : Run) (step : Step) (before : Followed) (answer : Answer) (old new : D) (result : Result (Unit {0}) AppendError) (error : AppendError) → result ≡ Err error → HasFollowed run before →
+      IsStepAnswer step before answer → (IsErrOf result appends.Memory → new ≡ old) → (IsErrOf result appends.Full → new ≡ old) →
+      (IsErrOf result appends.Full → 2 ^ 63 ≤ length (seen old) + length (blocks (log_bytes answer.batch.items))) →
+      ((others : List Entry) → AreWrittenAs (log_bytes answer.batch.items) others → LeavesOnly moment left_since old new (Leaves others)) → IsStoppedStep seen moment left_since Leaves run step (stopped_by error) before.schedule old new
+  unanswered Leaves run step before answer old new result error at done is memory full room leaves = by_error error at
+    where
+      may_have : MayHaveLogged moment left_since Leaves run step before.schedule old new
+      may_have = record {
+        reply = is.reply;
+        after = answer.followed.schedule;
+        next = is.next;
+        any_moment = leaves (newly_logged (past_in run) (done_as step) is.reply) (is.written run done);
+      }
+
+      no_room : new ≡ old → 2 ^ 63 ≤ length (seen old) + length (blocks (log_bytes answer.batch.items)) → IsWithoutRoom seen run step before.schedule old new
+      no_room same long = record {
+        reply = is.reply;
+        after = answer.followed.schedule;
+        next = is.next;
+        same = same;
+        too_long =
+            subst (λ log. 2 ^ 63 ≤ length (seen old) + length (blocks log))
+            (written_bytes (log_bytes answer.batch.items) (newly_logged (past_in run) (done_as step) is.reply) (is.written run done)) long;
+      }
+
+      by_error : (why : AppendError) → result ≡ Err why → IsStoppedStep seen moment left_since Leaves run step (stopped_by why) before.schedule old new
+      by_error appends.Memory is_why = memory is_why
+      by_error appends.Full is_why = no_room (full is_why) (room is_why)
+      by_error appends.Broken is_why = may_have
+      by_error (appends.Device devices.Failed) is_why = may_have
+      by_error (appends.Device devices.Memory) is_why = may_have
 
 -- ---- a step that is logged
 
@@ -94,38 +132,6 @@ module _ {D : Type 0} {G : Ghosts D} (seen : D → List ℕ) (may_leave : D → 
         };
         any_moment = leaves_batch seen may_leave moment left_since entries more (log_bytes answer.batch.items) (device_with_log before) (device_with_log after) keeps.disk written leaves;
       }
-
-  pub may_have_logged : (run : Run) (entries : List Entry) (step : Step) (answer : Answer) (before : LoggedSchedule D G) (device : D) → KeepsRun seen may_leave run entries before → IsStepAnswer step before.followed answer →
-      LeavesOnly moment left_since (device_with_log before) device (IsBeforeOrAfter (entries_read (seen (device_with_log before))) (log_bytes answer.batch.items)) → MayHaveLogged moment left_since run entries step before device
-  may_have_logged run entries step answer before device keeps is leaves = record {
-    reply = is.reply;
-    after = answer.followed.schedule;
-    next = is.next;
-    any_moment = leaves_batch seen may_leave moment left_since entries (newly_logged (past_in run) (done_as step) is.reply) (log_bytes answer.batch.items) (device_with_log before) device keeps.disk (is.written run keeps.done) leaves;
-  }
-
-  pub no_room : (run : Run) (entries : List Entry) (step : Step) (answer : Answer) (before : LoggedSchedule D G) (device : D) → KeepsRun seen may_leave run entries before → IsStepAnswer step before.followed answer → device ≡ device_with_log before →
-      2 ^ 63 ≤ length (seen (device_with_log before)) + length (blocks (log_bytes answer.batch.items)) → IsWithoutRoom seen run step before device
-  no_room run entries step answer before device keeps is same long = record {
-    reply = is.reply;
-    after = answer.followed.schedule;
-    next = is.next;
-    same = same;
-    too_long =
-        subst (λ log. 2 ^ 63 ≤ length (seen (device_with_log before)) + length (blocks log))
-        (written_bytes (log_bytes answer.batch.items) (newly_logged (past_in run) (done_as step) is.reply) (is.written run keeps.done)) long;
-  }
-
-  -- why it isn't answered
-  pub unanswered : (run : Run) (entries : List Entry) (step : Step) (answer : Answer) (before : LoggedSchedule D G) (device : D) (result : Result (Unit {0}) AppendError) (error : AppendError) → result ≡ Err error → KeepsRun seen may_leave run entries before →
-      IsStepAnswer step before.followed answer → (IsErrOf result appends.Memory → device ≡ device_with_log before) → (IsErrOf result appends.Full → device ≡ device_with_log before) →
-      (IsErrOf result appends.Full → 2 ^ 63 ≤ length (seen (device_with_log before)) + length (blocks (log_bytes answer.batch.items))) →
-      LeavesOnly moment left_since (device_with_log before) device (IsBeforeOrAfter (entries_read (seen (device_with_log before))) (log_bytes answer.batch.items)) → IsWithoutAnswer seen moment left_since run entries step (stopped_by error) before device
-  unanswered run entries step answer before device result appends.Memory at keeps is memory full room leaves = memory at
-  unanswered run entries step answer before device result appends.Full at keeps is memory full room leaves = no_room run entries step answer before device keeps is (full at) (room at)
-  unanswered run entries step answer before device result appends.Broken at keeps is memory full room leaves = may_have_logged run entries step answer before device keeps is leaves
-  unanswered run entries step answer before device result (appends.Device devices.Failed) at keeps is memory full room leaves = may_have_logged run entries step answer before device keeps is leaves
-  unanswered run entries step answer before device result (appends.Device devices.Memory) at keeps is memory full room leaves = may_have_logged run entries step answer before device keeps is leaves
 
   -- a file that is recovered, and over whose entries a schedule begins
   pub reopened : (config : Config) (file : List ℕ) (log : List (List ℕ)) (logged : LoggedSchedule D G) (followed : Followed) (device : D) → StandsFor file (entries_read file) → log ≡ entries_read file → StandsFor (seen device) (entries_read file) →

@@ -1,6 +1,12 @@
 -- Why a schedule isn't begun, or opened, over plain values.
-use Rattle.std.proofs.Common.{◌≡◌, ◌⊎◌, ℕ, Bool, List, [], Some, inl, inr, sym, subst}
+use Rattle.std.proofs.Common.{◌≡◌, ◌⊎◌, ◌≤◌, ◌+◌, ℕ, Bool, List, [], ◌∷◌, Some, ap, inl, inr, refl, sym, subst, arith}
+use Rattle.std.specs.List.{AllByRecursion}
+use Rattle.cluster_core.specs.Cluster.{ClusterState, tier_of}
 use Rattle.cluster_core.specs.Configuration.{config_refusal}
+use Rattle.cluster_core.specs.Decision.{owners}
+use Rattle.cluster_core.specs.Roles.{whole}
+use Rattle.cluster_core.specs.Tier.{ServerState, refusal}
+use Rattle.cluster_core.proofs.PulledMaps.{same-servers}
 use Rattle.cluster_core.specs.declared.answers.Config.{Config}
 use Rattle.cluster_core.specs.declared.answers.ConfigError.{ConfigError}
 use Rattle.journal.specs.Journal.{damage_read, entries_read}
@@ -8,15 +14,24 @@ use Rattle.journal.specs.Recovery.{HasReason}
 use Rattle.journal.specs.declared.error.RecoverError.{RecoverError}
 use Rattle.journal.specs.declared.error.RecoverError.TheVariants as recovers
 use Rattle.std.specs.declared.alloc.AllocError.{AllocError}
+use Rattle.replay.specs.Pairs.{every_key}
 use Rattle.replay.specs.Replaying.{IsUnreplayed, IsWhyOn}
 use Rattle.replay.specs.declared.error.ReplayError.{ReplayError}
 use Rattle.replay.specs.declared.error.ReplayError.TheVariants as replays
+use Rattle.schedule.specs.Stepwise.{whole_cluster}
 use Rattle.schedule.specs.declared.transcript.ScheduleError.{ScheduleError}
 use Rattle.schedule.specs.declared.transcript.ScheduleError.TheVariants as schedules
 use Rattle.logged_schedule.specs.declared.error.OpenError.{OpenError}
 use Rattle.logged_schedule.specs.declared.error.OpenError.TheVariants as opens
+use Rattle.durable.specs.Reopening.{IsNotReopened}
+use Rattle.durable.specs.declared.error.ReopenError.{ReopenError}
+use Rattle.durable.specs.declared.error.ReopenError.TheVariants as reopens
+use Rattle.logged_schedule.specs.declared.error.Unmade.{Unmade}
+use Rattle.logged_schedule.specs.declared.error.Unmade.TheVariants as unmade
+use Rattle.logged_schedule.specs.Reopening.{IsNotOpenedTwo}
+use Rattle.logged_schedule.specs.Twofold.{IsNotMade, IsNotRead}
 use Rattle.logged_schedule.specs.Refusals.{IsNoLogFor, IsNoneOpened, IsNotBegun, IsNotBegunAgain}
-use Rattle.logged_schedule.specs.Told.{opening_error, replay_error, schedule_error}
+use Rattle.logged_schedule.specs.Told.{begun_error, files_error, opening_error, replay_error, schedule_error}
 
 -- a schedule isn't begun
 pub not_begun : (config : Config) (error : ScheduleError) → (error ≡ schedules.Memory) ⊎ ((why : ConfigError) × (error ≡ schedules.Config why) × (config_refusal config ≡ Some why)) → IsNotBegun config (schedule_error error)
@@ -52,3 +67,47 @@ none_recovered config faults faults_now refused file recovers.Memory why = tt
 none_recovered config faults faults_now refused file recovers.Failed why = why
 none_recovered config faults faults_now refused file (recovers.Damage at) why = why
 none_recovered config faults faults_now refused file (recovers.Refused refusal) why = tt
+
+-- ---- two files
+
+-- a schedule isn't begun over what they come to
+pub two_not_begun : (config : Config) (faults faults_now : ℕ) (first : List ℕ) (faults_two now_two : ℕ) (second : List ℕ) (error : OpenError) → IsNotBegun config error → IsNotOpenedTwo config faults faults_now first faults_two now_two second (begun_error error)
+two_not_begun config faults faults_now first faults_two now_two second opens.Memory not = tt
+two_not_begun config faults faults_now first faults_two now_two second (opens.Config why) not = not
+two_not_begun config faults faults_now first faults_two now_two second opens.Failed not = absurd not
+two_not_begun config faults faults_now first faults_two now_two second (opens.Damage at) not = absurd not
+two_not_begun config faults faults_now first faults_two now_two second (opens.Unreplayed why) not = absurd not
+
+-- or they aren't opened
+pub two_not_reopened : (config : Config) (faults faults_now : ℕ) (first : List ℕ) (faults_two now_two : ℕ) (second : List ℕ) (error : ReopenError) → IsNotReopened faults faults_now first faults_two now_two second error →
+    IsNotOpenedTwo config faults faults_now first faults_two now_two second (files_error error)
+two_not_reopened config faults faults_now first faults_two now_two second reopens.Memory not = tt
+two_not_reopened config faults faults_now first faults_two now_two second (reopens.First error) not = not
+two_not_reopened config faults faults_now first faults_two now_two second (reopens.Second error) not = not
+two_not_reopened config faults faults_now first faults_two now_two second reopens.NotACheckpoint not = not
+two_not_reopened config faults faults_now first faults_two now_two second (reopens.Unreplayed error) not = not
+two_not_reopened config faults faults_now first faults_two now_two second (reopens.SameGeneration generation) not = not
+
+-- ---- a checkpoint
+
+abbrev total : List ℕ → ℕ
+total [] = 0
+total (clock ∷ clocks) = clock + total clocks
+
+each_below : (clocks : List ℕ) (bound : ℕ) → total clocks ≤ bound → AllByRecursion (λ clock. clock ≤ bound) clocks
+each_below [] bound within = tt
+each_below (clock ∷ clocks) bound within = let e : total (clock ∷ clocks) ≡ clock + total clocks = refl in (omega (arith, within, e), each_below clocks bound (omega (arith, within, e)))
+
+-- servers are the same, however many bytes of requests are kept
+same_tier : (c : ClusterState) → tier_of c ≡ tier_of (whole_cluster c)
+same_tier c =
+    ap (λ (servers : List ServerState). record { splits = c.splits; window = c.pipeline.window; servers = servers })
+    (sym (same-servers c.base c.pipeline (whole c.pipeline) (total c.pulled) refl refl (λ version below. refl) (owners c.splits) c.pulled (each_below c.pulled (total c.pulled) (omega arith))))
+
+-- where pairs aren't read it isn't made
+pub not_made : (c w : ClusterState) (generation : ℕ) (why : Unmade) → whole_cluster c ≡ w → IsNotRead c why → IsNotMade w generation why
+not_made c w generation unmade.Memory same not = tt
+not_made c w generation unmade.Full same not = tt
+not_made c w generation unmade.Exhausted same not = absurd not
+not_made c w generation unmade.Behind same (error, refused) =
+    (error, subst (λ (k : ClusterState). refusal (tier_of k) every_key k.pipeline.reported ≡ Some error) same (subst (λ tier. refusal tier every_key c.pipeline.reported ≡ Some error) (same_tier c) refused))

@@ -53,36 +53,42 @@ pub record IsKeptStep {D : Type 0} {G : Ghosts D} (seen : D → List ℕ) (may_l
       LeavesOnly moment left_since (device_with_log before) (device_with_log after)
       (HasAllOrNone entries (newly_logged (past_in run) (done_as step) reply))
 
--- a step was done with some reply, and isn't answered: a crash at any moment of it leaves the log from before, with all
--- that the step committed or with nothing of it
-pub record MayHaveLogged {D : Type 0} {G : Ghosts D} (moment : D → ℕ) (left_since : D → ℕ → List ℕ → Type 0) (run : Run)
-    (entries : List Entry) (step : Step) (before : LoggedSchedule D G) (device : D) : Type 0 where
+-- a step was done with some reply, and isn't answered: a crash at any moment of it leaves this of what it committed
+pub record MayHaveLogged {D : Type 0} (moment : D → ℕ) (left_since : D → ℕ → List ℕ → Type 0)
+    (Leaves : List Entry → List ℕ → Type 0) (run : Run) (step : Step) (state : StepwiseState) (old new : D) :
+    Type 0 where
   pub reply : Reply
   pub after : StepwiseState
-  pub next : DoesNext (done_as step) reply (schedule_of before) after
-  pub any_moment :
-      LeavesOnly moment left_since (device_with_log before) device
-      (HasAllOrNone entries (newly_logged (past_in run) (done_as step) reply))
+  pub next : DoesNext (done_as step) reply state after
+  pub any_moment : LeavesOnly moment left_since old new (Leaves (newly_logged (past_in run) (done_as step) reply))
 
 -- a step was done with some reply, and isn't answered: the file has no room for what it committed, and nothing was
 -- written
-pub record IsWithoutRoom {D : Type 0} {G : Ghosts D} (seen : D → List ℕ) (run : Run) (step : Step)
-    (before : LoggedSchedule D G) (device : D) : Type 0 where
+pub record IsWithoutRoom {D : Type 0} (seen : D → List ℕ) (run : Run) (step : Step) (state : StepwiseState)
+    (old new : D) : Type 0 where
   pub reply : Reply
   pub after : StepwiseState
-  pub next : DoesNext (done_as step) reply (schedule_of before) after
-  pub same : device ≡ device_with_log before
+  pub next : DoesNext (done_as step) reply state after
+  pub same : new ≡ old
   pub too_long :
       2 ^ 63
-      ≤ length (seen (device_with_log before))
-      + length (blocks (map bytes_of_entry (newly_logged (past_in run) (done_as step) reply)))
+      ≤ length (seen old) + length (blocks (map bytes_of_entry (newly_logged (past_in run) (done_as step) reply)))
 
--- what an unanswered step leaves: nothing was written where memory ran out, or the file had no room
+-- what an unanswered step leaves of the device with the log: nothing was written where memory ran out, or the file had
+-- no room
+abbrev pub IsStoppedStep :
+    {D : Type 0} → (D → List ℕ) → (D → ℕ) → (D → ℕ → List ℕ → Type 0) → (List Entry → List ℕ → Type 0) → Run → Step →
+    StepError → StepwiseState → D → D → Type 0
+IsStoppedStep seen moment left_since Leaves run step stops.Memory state old new = new ≡ old
+IsStoppedStep seen moment left_since Leaves run step stops.Full state old new =
+    IsWithoutRoom seen run step state old new
+IsStoppedStep seen moment left_since Leaves run step error state old new =
+    MayHaveLogged moment left_since Leaves run step state old new
+
+-- a crash at any moment of it leaves the log from before, with all that the step committed or with nothing of it
 abbrev pub IsWithoutAnswer :
     {D : Type 0} {G : Ghosts D} → (D → List ℕ) → (D → ℕ) → (D → ℕ → List ℕ → Type 0) → Run → List Entry → Step →
     StepError → LoggedSchedule D G → D → Type 0
-IsWithoutAnswer seen moment left_since run entries step stops.Memory before device = device ≡ device_with_log before
-IsWithoutAnswer seen moment left_since run entries step stops.Full before device =
-    IsWithoutRoom seen run step before device
 IsWithoutAnswer seen moment left_since run entries step error before device =
-    MayHaveLogged moment left_since run entries step before device
+    IsStoppedStep seen moment left_since (HasAllOrNone entries) run step error (schedule_of before)
+    (device_with_log before) device

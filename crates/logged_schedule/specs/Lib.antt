@@ -8,5 +8,7 @@ pub mod Standing
 pub mod Answers
 pub mod Keeping
 pub mod Opening
+pub mod Twofold
+pub mod Reopening
 pub mod Laws
 pub use Rattle.replay.specs.Continuing

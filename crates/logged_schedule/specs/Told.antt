@@ -9,8 +9,12 @@ use Rattle.replay.specs.declared.error.ReplayError.{ReplayError}
 use Rattle.replay.specs.declared.error.ReplayError.TheVariants as replays
 use Rattle.schedule.specs.declared.transcript.ScheduleError.{ScheduleError}
 use Rattle.schedule.specs.declared.transcript.ScheduleError.TheVariants as schedules
+use Rattle.durable.specs.declared.error.ReopenError.{ReopenError}
+use Rattle.durable.specs.declared.error.ReopenError.TheVariants as reopens
 use Rattle.logged_schedule.specs.declared.error.OpenError.{OpenError}
 use Rattle.logged_schedule.specs.declared.error.OpenError.TheVariants as opens
+use Rattle.logged_schedule.specs.declared.error.OpenTwoError.{OpenTwoError}
+use Rattle.logged_schedule.specs.declared.error.OpenTwoError.TheVariants as twos
 use Rattle.logged_schedule.specs.declared.error.StepError.{StepError}
 use Rattle.logged_schedule.specs.declared.error.StepError.TheVariants as stops
 
@@ -35,3 +39,12 @@ stopped_by append.Full = stops.Full
 stopped_by append.Broken = stops.Unknown
 stopped_by (append.Device device.Failed) = stops.Unknown
 stopped_by (append.Device device.Memory) = stops.Starved
+
+abbrev pub files_error : ReopenError → OpenTwoError
+files_error reopens.Memory = twos.Memory
+files_error error = twos.Files error
+
+-- where a schedule isn't begun over what files come to
+abbrev pub begun_error : OpenError → OpenTwoError
+begun_error (opens.Config why) = twos.Config why
+begun_error error = twos.Memory

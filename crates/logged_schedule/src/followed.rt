@@ -1,9 +1,11 @@
 // A schedule, and what is followed beside it. Stepped by `logged` and `again`.
-ghost use Rattle.std.specs.Prelude.{◌≡◌, ◌≤◌, List, [], IfErr, IfOk, IsNone, OnOk, map};
-ghost use Rattle.cluster_core.specs.Configuration.{config_refusal};
+ghost use Rattle.std.specs.Prelude.{◌≡◌, ◌≤◌, true, List, [], IfErr, IfOk, IsNone, OnOk, map};
+ghost use Rattle.std.specs.FinMap.{empty};
+ghost use Rattle.kv_core.specs.Map.{Map};
+ghost use Rattle.cluster_core.specs.Configuration.{config_refusal, first_cluster_over};
 ghost use Rattle.command_log.specs.declared.entry.Entry.{Entry as EntryValue};
 ghost use Rattle.replay.specs.Replaying.{IsLogged};
-ghost use Rattle.schedule.specs.Stepwise.{DoesNext};
+ghost use Rattle.schedule.specs.Stepwise.{DoesNext, HasDoneFrom};
 ghost use Rattle.logged_schedule.specs.Refusals.{IsNotBegun};
 ghost use Rattle.logged_schedule.specs.Runs.{done_as, lost, told_as};
 ghost use Rattle.logged_schedule.specs.Standing.{BeginsFollowed, StepsFollowed};
@@ -35,6 +37,8 @@ impl Followed {
     // A schedule of no steps, over an empty database.
     pub(crate) fn new(alloc: Global, config: &Config) -> Result<Followed, OpenError>
         ensures begun { IfOk result (BeginsFollowed [] config.now) }
+        ensures over_none { IfOk result (λ followed.
+            HasDoneFrom (first_cluster_over empty config.now) [] [] followed.schedule) }
         ensures allowed { OnOk result (IsNone (config_refusal config.now)) }
         ensures refused { IfErr result (IsNotBegun config.now) }
     {
@@ -46,18 +50,25 @@ impl Followed {
         })
     }
 
-    // One over what a lawful log has come to.
-    pub(crate) fn over(alloc: Global, config: &Config, image: Image) -> Result<Followed, OpenError>
+    // One over a database, as that to which a lawful log has come (`of_stores`).
+    pub(crate) fn over(
+        alloc: Global,
+        config: &Config,
+        image: Image,
+        of_stores: bool,
+    ) -> Result<Followed, OpenError>
         requires start { 1 ≤ config.now.start }
-        requires logged { (entries : List EntryValue) × IsLogged entries image }
+        requires logged { of_stores ≡ true → (entries : List EntryValue) × IsLogged entries image }
         ensures begun { IfOk result (λ followed. (entries : List EntryValue)
             → IsLogged entries image → BeginsFollowed entries config.now followed) }
+        ensures over_some { IfOk result (λ followed. (base : Map)
+            × HasDoneFrom (first_cluster_over base config.now) [] [] followed.schedule) }
         ensures allowed { OnOk result (IsNone (config_refusal config.now)) }
         ensures refused { IfErr result (IsNotBegun config.now) }
     {
         let pairs = image.pairs(alloc)?;
         drop(image);
-        let schedule = Schedule::over(alloc, config, pairs, true)?;
+        let schedule = Schedule::over(alloc, config, pairs, of_stores)?;
         let following = Following::new(alloc)?;
         Ok(Followed {
             schedule,

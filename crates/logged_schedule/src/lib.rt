@@ -9,8 +9,15 @@ mod following;
 mod laws;
 mod logged;
 mod opening;
+mod reopening;
+mod twofold;
+mod whole;
 
-pub use error::{OpenError, StepError, Stopped, Unopened};
+pub use error::{
+    Failed, OpenError, OpenTwoError, StepError, Stopped, StoppedTwo, Unmade, Unopened, UnopenedTwo,
+};
 pub use laws::{commits_are_logged, entries_tell_of_commits, logs_go_on};
 pub use logged::LoggedSchedule;
 pub use opening::open;
+pub use reopening::open_two;
+pub use twofold::TwofoldSchedule;

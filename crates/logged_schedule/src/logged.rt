@@ -1,6 +1,8 @@
-// A schedule with a log on a device. Made by `opening`.
-ghost use Rattle.std.specs.Prelude.{◌≡◌, true, IfOk};
+// A schedule with a log on a device, made by `opening`; and what is made of a step before it is
+// logged and answered, also by `twofold`.
+ghost use Rattle.std.specs.Prelude.{◌≡◌, ℕ, true, IfOk, unwrap_or};
 ghost use Rattle.journal.specs.Standing.{is_open as takes_entries};
+ghost use Rattle.replay.specs.Logged.{last_version};
 ghost use Rattle.replay.specs.Replaying.{AreWrittenAs, log_bytes};
 
 use crate::error::{StepError, Stopped};
@@ -30,19 +32,32 @@ fn bytes_of_entries(alloc: Global, entries: &[Entry]) -> Result<Vec<Vec<u8>>, Al
     Ok(out)
 }
 
-// What is answered of a step, and the bytes of the entries that are logged before.
+// The version of the last entry, if there is one.
+fn last_told(entries: &[Entry]) -> Option<u64>
+    ensures { (version : ℕ) → last_version version entries.now ≡ unwrap_or result version }
+{
+    let mut last = None;
+    for entry in entries {
+        last = Some(entry.version);
+    }
+    last
+}
+
+// What is answered of a step, and the bytes of the entries that are logged before, with the version
+// of the last one.
 #[derive(Drop)]
-struct Answer {
-    followed: Followed,
-    reply: Reply,
-    batch: Vec<Vec<u8>>,
+pub(crate) struct Answer {
+    pub(crate) followed: Followed,
+    pub(crate) reply: Reply,
+    pub(crate) batch: Vec<Vec<u8>>,
+    pub(crate) last: Option<u64>,
 }
 
 impl Answer {
     ghost use Rattle.logged_schedule.specs.Answers.{IsStepAnswer};
 
     // Does a step, and makes all that is wanted to log and to answer it.
-    fn of(alloc: Global, followed: Followed, step: &Step) -> Result<Answer, AllocError>
+    pub(crate) fn of(alloc: Global, followed: Followed, step: &Step) -> Result<Answer, AllocError>
         ensures { IfOk result (IsStepAnswer step.now followed) }
     {
         let Stepped {
@@ -51,11 +66,13 @@ impl Answer {
             told,
         } = followed.step(alloc, step)?;
         let batch = bytes_of_entries(alloc, told.as_slice())?;
+        let last = last_told(told.as_slice());
         let reply = told_as(alloc, step, reply)?;
         Ok(Answer {
             followed,
             reply,
             batch,
+            last,
         })
     }
 }
@@ -137,6 +154,7 @@ impl<D: Device> LoggedSchedule<D> {
             followed,
             reply,
             batch,
+            last: _,
         } = answer;
         // What is committed is on the disk before anyone is told of it.
         match journal.append(alloc, batch.as_slice()) {

@@ -9,8 +9,8 @@ use Rattle.logged_schedule.proofs.followed.Followed.over.Goals as goal
 
 pub over-requires-clause-stores : goal.over-requires-clause-stores
 over-requires-clause-stores c known =
-    let entries = c.requires.logged.0 in
-    let is = c.requires.logged.1 in
+    let entries = (c.requires.logged known).0 in
+    let is = (c.requires.logged known).1 in
     let stores = (log_database entries).stores in
     (stores, subst (λ m. HoldsAll m stores) (sym (ap from_entries c.in_ok-pairs.ensures ∙ pairs_suffice entries c.args.image is)) is.holds)
 
