@@ -81,16 +81,14 @@ fn demonstrate<R: Threads + Wait + Sync>(rt: &R, alloc: Global) -> Result<Vec<St
     }
 }
 
-fn print(rt: &HostRuntime, lines: &[String]) -> io::Result<ExitCode> {
-    for line in lines {
-        rt.println(line.as_str())?;
-    }
-    Ok(ExitCode::SUCCESS)
-}
-
 fn main(rt: HostRuntime) -> io::Result<ExitCode> {
     match demonstrate(&rt, rt.alloc()) {
-        Ok(lines) => print(&rt, &lines),
+        Ok(lines) => {
+            for line in lines {
+                rt.println(line)?;
+            }
+            Ok(ExitCode::SUCCESS)
+        }
         Err(error) => {
             rt.eprintln(error)?;
             Ok(ExitCode::FAILURE)
