@@ -3,16 +3,16 @@
 
 Each crate is proved from nothing, alone and by one job, in a copy, over the libraries below it as `rt ci` or `rt lib`
 has built them in this checkout. A line is printed for the crate and for each of its ten slowest functions, with the
-seconds that went by until the prover had ended with it, since it had ended with the one before. So nothing else should
-run beside, what the prover does between functions counts for the next one, and the first one, before which all is
-loaded, is told apart.
+seconds of a processor that the prover took until it had ended with it, since it had ended with the one before. So what
+the prover does between functions counts for the next one: a function that is the first one to call into a library has
+the modules of it that are loaded then. The first one of all, before which most are, is told apart. What runs beside
+makes them some tenth more.
 """
 import os
 import re
 import subprocess
 import sys
 import tempfile
-import time
 
 sys.path.append(os.path.join(os.path.dirname(os.path.abspath(__file__)), "wrong_bodies"))
 from toolchain import proof_from_nothing
@@ -20,20 +20,34 @@ from trials import Workshop
 
 CHECKED, MOST = re.compile(r"checked (\S+), \d+ of \d+"), 10
 
+# Of a line of /proc/N/stat, the fields behind the name in which the ticks of a process and of those that it waited for
+# are.
+TICKS = slice(11, 15)
+
+
+def seconds_of(process, before):
+    """The seconds of a processor that a process has taken, or those of before, where it has ended."""
+    try:
+        with open(f"/proc/{process.pid}/stat", encoding="utf-8", errors="replace") as stat:
+            fields = stat.read().rpartition(")")[2].split()
+    except OSError:
+        return before
+    return sum(int(it) for it in fields[TICKS]) / os.sysconf("SC_CLK_TCK")
+
 
 def spans_of(home, name):
-    """The functions of a crate in a repository, with the seconds that each took, the first one first, and whether all
-    are proved."""
+    """The functions of a crate in a repository, with the seconds that each took, the first one first, those of all, and
+    whether all are proved."""
     process = subprocess.Popen(
         proof_from_nothing(home, name), cwd=os.path.join(home, "crates", name), stdin=subprocess.DEVNULL,
         stdout=subprocess.PIPE, stderr=subprocess.STDOUT, text=True, errors="replace")
-    spans, since = {}, time.monotonic()
+    spans, since, now = {}, 0, 0
     with process.stdout:
         for line in process.stdout:
-            found, now = CHECKED.match(line), time.monotonic()
+            found, now = CHECKED.match(line), seconds_of(process, now)
             if found:
                 spans[found[1]], since = now - since, now
-    return spans, process.wait() == 0
+    return spans, now, process.wait() == 0
 
 
 def main():
@@ -45,10 +59,9 @@ def main():
         with tempfile.TemporaryDirectory(prefix="slowest-") as room:
             workshop, home = Workshop(os.getcwd(), room, over_ci=True), os.path.join(room, "home")
             workshop.furnish(home, name, os.path.join(os.getcwd(), "crates", name), [])
-            begun = time.monotonic()
-            spans, is_proved = spans_of(home, name)
+            spans, taken, is_proved = spans_of(home, name)
         failed = failed or not is_proved
-        print(f"{name}: {'' if is_proved else 'NOT '}proved in {time.monotonic() - begun:.0f} s", flush=True)
+        print(f"{name}: {'' if is_proved else 'NOT '}proved in {taken:.0f} s", flush=True)
         if not spans:
             continue
         first, *others = spans.items()

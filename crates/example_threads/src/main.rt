@@ -109,17 +109,15 @@ fn demonstrate<R: Threads + Wait + Files<File = File> + Sync>(
     }
 }
 
-fn print(rt: &HostRuntime, lines: &[String]) -> io::Result<ExitCode> {
-    for line in lines {
-        rt.println(line.as_str())?;
-    }
-    Ok(ExitCode::SUCCESS)
-}
-
 fn main(rt: HostRuntime) -> io::Result<ExitCode> {
     let words: Vec<String> = env::args(&rt)?.collect(rt.alloc())?;
     match demonstrate(&rt, rt.alloc(), words.get(1).map(|it| it.as_str())) {
-        Ok(lines) => print(&rt, &lines),
+        Ok(lines) => {
+            for line in lines {
+                rt.println(line)?;
+            }
+            Ok(ExitCode::SUCCESS)
+        }
         Err(error) => {
             rt.eprintln(error)?;
             Ok(ExitCode::FAILURE)

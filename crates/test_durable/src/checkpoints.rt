@@ -1,8 +1,8 @@
 // A run with checkpoints over two devices, of which one fails in each of its calls in turn. Run as
 // tests.
 use crate::parts::holds;
-use crate::run::{COUNT, databases, has_all, request};
-use durable::{CheckpointError, Checkpointed, CommitError, UnopenedTwo, open_two};
+use crate::run::{COUNT, databases, has_all, is_acknowledged, request};
+use durable::{CheckpointError, Checkpointed, UnopenedTwo, open_two};
 use journal::{Device, Fuse, Memory};
 use kv_core::Bytes;
 use std::alloc::Global;
@@ -37,21 +37,14 @@ fn is_made<D: Device>(alloc: Global, db: &mut Checkpointed<D>) -> Result<bool, F
     }
 }
 
-/// Commits the run's transaction at this place, and tells whether it was. Where it wasn't, it isn't
-/// known what became of it.
+/// Commits the run's transaction at this place, and tells whether that is acknowledged.
 fn is_committed<D: Device>(
     alloc: Global,
     db: &mut Checkpointed<D>,
     place: usize,
 ) -> Result<bool, Fail> {
     let asked = request(alloc, place)?;
-    match db.commit(alloc, asked) {
-        Ok(_) => Ok(true),
-        Err(error) => {
-            holds(matches!(error, CommitError::Unknown), "a failed commit")?;
-            Ok(false)
-        }
-    }
+    is_acknowledged(db.commit(alloc, asked))
 }
 
 /// Commits the run's transactions from this place on, with its checkpoints, and tells how many are
@@ -188,8 +181,8 @@ fn swapped(alloc: Global, count: usize, one: &[u8], other: &[u8]) -> Result<File
     })
 }
 
-/// After so many calls a device fails, and nothing acknowledged is lost. False says that the run was
-/// through before.
+/// After so many calls a device fails, and nothing acknowledged is lost. False says that the run
+/// was through before.
 fn is_outlived(
     alloc: Global,
     wanted: &[Vec<(Bytes, Bytes)>],

@@ -1,6 +1,6 @@
 // A device that fails in each call of a run, with what it writes there torn. Run as tests.
 use crate::parts::holds;
-use crate::run::{COUNT, databases, has_all, request};
+use crate::run::{COUNT, databases, has_all, is_acknowledged, request};
 use durable::{CommitError, Durable, Unopened, open};
 use journal::{Device, Fuse, Memory};
 use kv_core::Bytes;
@@ -14,17 +14,10 @@ static TORN: [usize; 4] = [0, 20, 60, 1000];
 /// time that it writes room ahead.
 const CALLS: usize = 2 * COUNT + 24;
 
-/// Commits the run's transaction at this place, and tells whether it was. Where it wasn't, it isn't
-/// known what became of it.
+/// Commits the run's transaction at this place, and tells whether that is acknowledged.
 fn is_committed<D: Device>(alloc: Global, db: &mut Durable<D>, place: usize) -> Result<bool, Fail> {
     let asked = request(alloc, place)?;
-    match db.commit(alloc, asked) {
-        Ok(_) => Ok(true),
-        Err(error) => {
-            holds(matches!(error, CommitError::Unknown), "a failed commit")?;
-            Ok(false)
-        }
-    }
+    is_acknowledged(db.commit(alloc, asked))
 }
 
 /// Nothing more is committed, and nothing is read.

@@ -63,11 +63,12 @@ fn goes_on(
     Ok(found.wrapping_add(4))
 }
 
-/// Cuts a file short. Besides zeros less than the block of an entry goes, so no more than the last one does.
-fn cut(rt: &HostRuntime, path: &str, round: usize) -> Result<(), Fail> {
+/// Cuts a file short, by its zeros and so many bytes more. That is less than the block of an entry,
+/// so no more than the last one goes.
+fn cut(rt: &HostRuntime, path: &str, more: usize) -> Result<(), Fail> {
     let bytes = fs::read(rt, path)?;
     let zeros = bytes.iter().rev().take_while(|byte| **byte == 0).count();
-    let len = bytes.len().saturating_sub(zeros + 1 + round * 7 % 40);
+    let len = bytes.len().saturating_sub(zeros).saturating_sub(more);
     fs::write(rt, path, bytes.get(..len).ok_or("a length")?)?;
     Ok(())
 }
@@ -78,7 +79,7 @@ fn outlive(rt: &HostRuntime, path: &str) -> Result<(), Fail> {
     for round in 0..40 {
         count = goes_on(rt, path, &wanted, count)?;
         if round % 3 == 0 {
-            cut(rt, path, round)?;
+            cut(rt, path, 1 + round * 7 % 40)?;
         }
     }
     Ok(())

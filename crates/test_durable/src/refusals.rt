@@ -192,8 +192,8 @@ fn refusal_of(alloc: Global, second: Entry) -> Result<ReplayError, Fail> {
     }
 }
 
-/// The version and the store's number of the second entry, whether it makes the store again, and why
-/// it is refused: a version that stays, a store that isn't there, a number of no store, a second
+/// The version and the store's number of the second entry, whether it makes the store again, and
+/// why it is refused: a version that stays, a store that isn't there, a number of no store, a second
 /// store.
 static REFUSED: [(u64, u64, bool, &str); 4] = [
     (3, 1, false, "OutOfOrder(1)"),

@@ -1,7 +1,7 @@
 // A run of transactions, the databases that it goes through, and how they are compared.
 use crate::parts::{authors, by_author, field, holds, name, one, remove, save, store, two};
 use command_log::{Change, Changes};
-use durable::Request;
+use durable::{CommitError, Request};
 use kv_core::{Bytes, KeyRange, KvMap};
 use metadata::{Cell, Cells, IndexKind, Kind};
 use record_store::StoreNumber;
@@ -83,6 +83,17 @@ pub fn request(alloc: Global, place: usize) -> Result<Request, Fail> {
         store: store_of(place)?,
         changes: changes(alloc, place)?,
     })
+}
+
+/// Whether a commit is acknowledged. Where it isn't, it isn't known what became of it.
+pub fn is_acknowledged<T: Drop>(told: Result<T, CommitError>) -> Result<bool, Fail> {
+    match told {
+        Ok(_) => Ok(true),
+        Err(error) => {
+            holds(matches!(error, CommitError::Unknown), "a failed commit")?;
+            Ok(false)
+        }
+    }
 }
 
 /// The pairs of a map, all of them.

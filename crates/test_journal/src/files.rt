@@ -39,7 +39,7 @@ static TRIALS: [(&str, Trial); 6] = [
     ("reads", Trial::Read),
 ];
 
-/// The path of a folder for a trial's file. Its name has that of the trial and the process's number.
+/// The path of a folder for a trial's file. Its name has the trial's and the process's number.
 fn folder_of(rt: &HostRuntime, name: &str) -> Result<PathBuf, Fail> {
     let number = process::id(rt.process());
     let folder = format!(in rt.alloc(); "test_journal_{name}_{number}")?;
