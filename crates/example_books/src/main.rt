@@ -11,7 +11,7 @@ mod queries;
 
 use books::books;
 use copies::{add_copies, copies, make_store};
-use queries::books_with;
+use queries::push_books;
 use record_layer::{Config, Database, Error, NotCommitted, Schema, Session, Transaction, place_of};
 use std::alloc::Global;
 use std::io;
@@ -34,21 +34,47 @@ fn line(
     }
 }
 
+/// Each of two sessions adds copies of one book.
+fn add_beside(one: &mut Session<'_>, other: &mut Session<'_>) -> Result<(), Error> {
+    add_copies(one, "Emma", 3)?;
+    add_copies(other, "Emma", 2)
+}
+
 /// Two transactions that each add copies of one book.
 fn adding(alloc: Global, db: &Database) -> Result<(Transaction, Transaction), Error> {
     let (mut one, mut other) = (db.session(alloc)?, db.session(alloc)?);
-    add_copies(&mut one, "Emma", 3)?;
-    add_copies(&mut other, "Emma", 2)?;
+    add_beside(&mut one, &mut other)?;
     Ok((one.into_transaction(), other.into_transaction()))
 }
 
+/// Adds the line that tells a commit.
+fn tell(
+    alloc: Global,
+    schema: &Schema,
+    who: &str,
+    told: Result<u64, NotCommitted>,
+    lines: &mut Vec<String>,
+) -> Result<(), Error> {
+    lines.push(line(alloc, schema, who, told)?)?;
+    Ok(())
+}
+
 /// Two transactions add copies of one book, and the second one is refused, for what it read.
-fn meet(alloc: Global, db: &mut Database) -> Result<(String, String), Error> {
-    let schema = books(alloc)?;
+fn commit_both(
+    alloc: Global,
+    db: &mut Database,
+    schema: &Schema,
+    lines: &mut Vec<String>,
+) -> Result<(), Error> {
     let (one, other) = adding(alloc, db)?;
-    let first = line(alloc, &schema, "one", db.commit(one))?;
-    let second = line(alloc, &schema, "other", db.commit(other))?;
-    Ok((first, second))
+    tell(alloc, schema, "one", db.commit(one), lines)?;
+    tell(alloc, schema, "other", db.commit(other), lines)
+}
+
+/// The same, told in the words of the schema.
+fn meet(alloc: Global, db: &mut Database, lines: &mut Vec<String>) -> Result<(), Error> {
+    let schema = books(alloc)?;
+    commit_both(alloc, db, &schema, lines)
 }
 
 /// Adds copies in a new session, and answers the version.
@@ -62,41 +88,49 @@ fn add_again(alloc: Global, db: &mut Database) -> Result<u64, Error>
 
 /// Reads in a session what is committed, and queries it together with what the session itself
 /// writes, whatever becomes of that.
-fn read(alloc: Global, db: &Database) -> Result<Vec<String>, Error> {
-    let mut session = db.session(alloc)?;
-    let found = copies(&mut session, "Emma")?;
-    add_copies(&mut session, "Persuasion", 7)?;
-    let mut lines = books_with(alloc, &mut session, 5)?;
+fn look(alloc: Global, session: &mut Session<'_>, lines: &mut Vec<String>) -> Result<(), Error> {
+    let found = copies(session, "Emma")?;
+    add_copies(session, "Persuasion", 7)?;
+    push_books(alloc, session, 5, lines)?;
     lines.push(format!(in alloc; "committed of Emma: {found}")?)?;
-    Ok(lines)
+    Ok(())
 }
 
-/// Makes the store and changes it, and answers the lines that tell it.
-fn change(alloc: Global, db: &mut Database) -> Result<Vec<String>, Error> {
+/// Does so in a new session.
+fn read(alloc: Global, db: &Database, lines: &mut Vec<String>) -> Result<(), Error> {
+    let mut session = db.session(alloc)?;
+    look(alloc, &mut session, lines)
+}
+
+/// Makes the store and changes it, and adds the lines that tell it.
+fn change(alloc: Global, db: &mut Database, lines: &mut Vec<String>) -> Result<(), Error> {
     let made = make_store(alloc, db)?;
-    let (one, other) = meet(alloc, db)?;
+    lines.push(format!(in alloc; "store: committed at version {made}")?)?;
+    meet(alloc, db, lines)?;
     let again = add_again(alloc, db)?;
-    let made = format!(in alloc; "store: committed at version {made}")?;
-    let again = format!(in alloc; "again: committed at version {again}")?;
-    Ok(vec![in alloc; made, one, other, again]?)
+    lines.push(format!(in alloc; "again: committed at version {again}")?)?;
+    Ok(())
 }
 
 /// Does all of it, and answers the lines that tell it.
 fn demonstrate(alloc: Global) -> Result<Vec<String>, Error> {
     let mut db = Database::new(alloc, &Config::single(alloc))?;
-    let mut lines = change(alloc, &mut db)?;
-    lines.append(&mut read(alloc, &db)?)?;
+    let mut lines = Vec::new(alloc);
+    change(alloc, &mut db, &mut lines)?;
+    read(alloc, &db, &mut lines)?;
     Ok(lines)
+}
+
+fn print(rt: &HostRuntime, lines: &[String]) -> io::Result<ExitCode> {
+    for line in lines {
+        rt.println(line.as_str())?;
+    }
+    Ok(ExitCode::SUCCESS)
 }
 
 fn main(rt: HostRuntime) -> io::Result<ExitCode> {
     match demonstrate(rt.alloc()) {
-        Ok(lines) => {
-            for line in lines {
-                rt.println(line)?;
-            }
-            Ok(ExitCode::SUCCESS)
-        }
+        Ok(lines) => print(&rt, &lines),
         Err(error) => {
             rt.eprintln(error)?;
             Ok(ExitCode::FAILURE)

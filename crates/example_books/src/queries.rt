@@ -23,23 +23,29 @@ fn book_line(alloc: Global, book: &Record) -> Result<String, AllocError> {
     }
 }
 
-/// A plan, and the books that it has found, in a line each.
-fn lines(alloc: Global, plan: &Plan, found: &[Record]) -> Result<Vec<String>, Error> {
-    let mut lines = vec![in alloc; explain(alloc, plan)?]?;
+/// Adds a plan, and the books that it has found, in a line each.
+fn push_lines(
+    alloc: Global,
+    plan: &Plan,
+    found: &[Record],
+    lines: &mut Vec<String>,
+) -> Result<(), Error> {
+    lines.push(explain(alloc, plan)?)?;
     for book in found {
         lines.push(book_line(alloc, book)?)?;
     }
-    Ok(lines)
+    Ok(())
 }
 
-/// The plan that finds the books of which there are at least so many copies, and these books, in a
-/// line each.
-pub(crate) fn books_with(
+/// Adds the plan that finds the books of which there are at least so many copies, and these books,
+/// in a line each.
+pub(crate) fn push_books(
     alloc: Global,
     session: &mut Session<'_>,
     copies: i64,
-) -> Result<Vec<String>, Error> {
+    lines: &mut Vec<String>,
+) -> Result<(), Error> {
     let plan = session.plan(at_least(alloc, copies)?)?;
     let found = session.execute(&plan)?;
-    lines(alloc, &plan, found.as_slice())
+    push_lines(alloc, &plan, found.as_slice(), lines)
 }

@@ -102,6 +102,11 @@ fn sell_each<E: End, R: Wait>(rt: &R, alloc: Global, client: &mut Client<E>) -> 
     Ok(sold)
 }
 
+/// What both sold, or why one of them didn't.
+fn both<E: Drop>(one: Result<i64, E>, other: Result<i64, E>) -> Result<(i64, i64), E> {
+    Ok((one?, other?))
+}
+
 /// Two clerks sell beside each other, each on a thread. Answers how many each of them sold.
 pub(crate) fn sell_beside<E: End + Send, R: Threads + Wait + Sync>(
     rt: &R,
@@ -114,5 +119,5 @@ pub(crate) fn sell_beside<E: End + Send, R: Threads + Wait + Sync>(
         || sell_each(rt, alloc, one),
         || sell_each(rt, alloc, other),
     );
-    Ok((one?, other?))
+    both(one, other)
 }

@@ -44,34 +44,46 @@ fn trade<E: End + Send, R: Threads + Wait + Sync>(
     })
 }
 
-/// Has the first two clients of a database trade, where there are two.
-fn first_trade<E: End + Send, R: Threads + Wait + Sync>(
+/// Has the first two clients trade, where there are two.
+fn trade_of<E: End + Send, R: Threads + Wait + Sync>(
     rt: &R,
     alloc: Global,
-    clients: Vec<Client<E>>,
+    clients: &mut [Client<E>],
 ) -> Result<Option<Day>, Error> {
-    let mut clients = clients;
-    let Some((one, others)) = clients.as_mut_slice().split_first_mut() else {
+    let Some((one, others)) = clients.split_first_mut() else {
         return Ok(None);
     };
     let Some((other, _)) = others.split_first_mut() else {
         return Ok(None);
     };
-    let day = trade(rt, alloc, one, other)?;
-    Ok(Some(day))
+    Ok(Some(trade(rt, alloc, one, other)?))
 }
 
-/// Opens the database in this folder, or without one a new one in memory, and has its clients
-/// trade.
+/// Has the clients of a new database in memory trade.
+fn trade_anew<R: Threads + Wait + Sync>(rt: &R, alloc: Global) -> Result<Option<Day>, Error> {
+    let mut clients = open(rt, alloc, Waits { rt }, &Config::single(alloc))?;
+    trade_of(rt, alloc, clients.as_mut_slice())
+}
+
+/// Opens the database in this folder, and has its clients trade there.
+fn trade_in<R: Threads + Wait + Files<File = File> + Sync>(
+    rt: &R,
+    alloc: Global,
+    folder: &str,
+) -> Result<Option<Day>, Error> {
+    let mut clients = open_at(rt, alloc, folder, Config::single(alloc))?;
+    trade_of(rt, alloc, clients.as_mut_slice())
+}
+
+/// Has clients trade, in this folder where there is one.
 fn open_and_trade<R: Threads + Wait + Files<File = File> + Sync>(
     rt: &R,
     alloc: Global,
     folder: Option<&str>,
 ) -> Result<Option<Day>, Error> {
-    let config = Config::single(alloc);
     match folder {
-        Some(folder) => first_trade(rt, alloc, open_at(rt, alloc, folder, config)?),
-        None => first_trade(rt, alloc, open(rt, alloc, Waits { rt }, &config)?),
+        Some(folder) => trade_in(rt, alloc, folder),
+        None => trade_anew(rt, alloc),
     }
 }
 
@@ -101,15 +113,18 @@ fn demonstrate<R: Threads + Wait + Files<File = File> + Sync>(
     }
 }
 
+/// Prints lines.
+fn print(rt: &HostRuntime, lines: &[String]) -> io::Result<ExitCode> {
+    for line in lines {
+        rt.println(line.as_str())?;
+    }
+    Ok(ExitCode::SUCCESS)
+}
+
 fn main(rt: HostRuntime) -> io::Result<ExitCode> {
     let words: Vec<String> = env::args(&rt)?.collect(rt.alloc())?;
     match demonstrate(&rt, rt.alloc(), words.get(1).map(|it| it.as_str())) {
-        Ok(lines) => {
-            for line in lines {
-                rt.println(line)?;
-            }
-            Ok(ExitCode::SUCCESS)
-        }
+        Ok(lines) => print(&rt, &lines),
         Err(error) => {
             rt.eprintln(error)?;
             Ok(ExitCode::FAILURE)

@@ -2,7 +2,7 @@
 use metadata::{Cell, Cells, Kind, Places, State, States};
 use std::alloc::Global;
 use std::test::Fail;
-use test_parts::{cells_asked, digits_of, holds, same, tells};
+use test_parts::{cells_asked, has_digits, holds, tells};
 use tuple_codec::pack;
 
 /// Cells in their order.
@@ -67,7 +67,7 @@ fn are_taken(alloc: Global) -> Result<(), Fail> {
     holds(cells.has_null(), "a place past the end")?;
     only_null_fits(cells.as_slice(), Kind::Int)?;
     let bytes = pack(alloc, &cells.tuple(alloc)?)?;
-    same(digits_of(alloc, &bytes)?.as_str(), "010002780000")
+    has_digits(alloc, &bytes, "010002780000")
 }
 
 #[test]

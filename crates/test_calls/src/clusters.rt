@@ -3,7 +3,7 @@ use crate::configs::{config_of, logs_and_window};
 use cluster_core::{Cluster, Work};
 use std::alloc::Global;
 use std::test::Fail;
-use test_parts::{alike, pairs_of, range_of, report_text, request_of, same, shown};
+use test_parts::{are_pairs, range_of, report_text, request_of, same, shown, tells};
 use txn::Snapshot;
 
 /// What is done with a cluster: a step takes a number and two texts.
@@ -345,8 +345,8 @@ fn read(
     let range = range_of(alloc, range)?;
     let limit = limit.parse::<usize>()?.max(1);
     match Snapshot::read(cluster, &range, version, limit, reverse) {
-        Ok(pairs) => alike(alloc, &pairs, &pairs_of(alloc, told)?),
-        Err(error) => same(shown(alloc, &error)?.as_str(), told),
+        Ok(pairs) => are_pairs(alloc, &pairs, told),
+        Err(error) => tells(alloc, &error, told),
     }
 }
 

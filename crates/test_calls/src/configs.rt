@@ -3,7 +3,7 @@
 use cluster_core::{Cluster, Config, ConfigError, Pipeline, Splits, Tier};
 use std::alloc::Global;
 use std::test::Fail;
-use test_parts::{alike, bytes_of, holds, mutations_of, pairs_of, range_of, tells};
+use test_parts::{are_pairs, bytes_of, holds, mutations_of, range_of, tells};
 use txn::Snapshot;
 
 /// The splits of a text, in which `empty` stands for the empty key.
@@ -114,7 +114,7 @@ fn pulled(alloc: Global, config: &Config, told: &str) -> Result<Tier, Fail> {
 fn read(alloc: Global, tier: &Tier, version: u64, told: &str) -> Result<(), Fail> {
     let range = range_of(alloc, "61-64")?;
     let pairs = Snapshot::read(tier, &range, version, 9, false)?;
-    alike(alloc, &pairs, &pairs_of(alloc, told)?)
+    are_pairs(alloc, &pairs, told)
 }
 
 #[test]

@@ -1,9 +1,9 @@
 // Reads of a snapshot that refuses one of them, whatever was read before. Run as a test.
 use cluster_core::ReadError;
-use kv_core::KvMap;
+use kv_core::{CommitRequest, KvMap};
 use std::alloc::Global;
 use std::test::Fail;
-use test_parts::{alike, mutations_of, pairs_of, range_of, ranges_of, tells};
+use test_parts::{are_pairs, are_ranges, mutations_of, range_of, tells};
 use txn::{FailAt, Transaction};
 
 /// Which read of the snapshot is refused, and what two reads of the first pair tell, each by two
@@ -25,32 +25,45 @@ fn is_told(
 ) -> Result<(), Fail> {
     let range = range_of(alloc, "61-70")?;
     match transaction.get_range(db, &range, 1, false) {
-        Ok(pairs) => alike(alloc, &pairs, &pairs_of(alloc, wanted)?),
+        Ok(pairs) => are_pairs(alloc, &pairs, wanted),
         Err(error) => tells(alloc, &error, wanted),
     }
 }
 
-/// The keys of the first pairs are cleared, so that the snapshot is read once more behind them. A
-/// refused read leaves the transaction as it was.
-fn reads_told(alloc: Global, row: &(u64, &str, &str)) -> Result<(), Fail> {
-    let (at, first, second) = row;
+/// The map of four pairs.
+fn stored(alloc: Global) -> Result<KvMap, Fail> {
     let stored = mutations_of(alloc, "61=01 62=02 68=08 69=09")?;
-    let map = KvMap::new(alloc).with_all(stored.as_slice())?;
-    let db = FailAt::new(&map, *at, ReadError::TooOld);
+    Ok(KvMap::new(alloc).with_all(stored.as_slice())?)
+}
+
+/// A transaction that has cleared some of them, and set one.
+fn written(alloc: Global) -> Result<Transaction, Fail> {
     let mut transaction = Transaction::begin(alloc, 0);
     transaction.write_all(mutations_of(alloc, "61-68 6b=00")?)?;
+    Ok(transaction)
+}
+
+fn has_read(alloc: Global, request: &CommitRequest) -> Result<(), Fail> {
+    are_ranges(alloc, request.reads.as_slice(), "61-6800")?;
+    tells(alloc, &request.mutations.as_slice().len(), "2")
+}
+
+/// The keys of the first pairs are cleared, so that the snapshot is read once more behind them. A
+/// refused read leaves the transaction as it was.
+fn reads_told(alloc: Global, map: &KvMap, row: &(u64, &str, &str)) -> Result<(), Fail> {
+    let (at, first, second) = row;
+    let db = FailAt::new(map, *at, ReadError::TooOld);
+    let mut transaction = written(alloc)?;
     is_told(alloc, &db, &mut transaction, first)?;
     is_told(alloc, &db, &mut transaction, second)?;
-    let request = transaction.into_request();
-    let read = ranges_of(alloc, "61-6800")?;
-    alike(alloc, &request.reads.as_slice(), &read.as_slice())?;
-    tells(alloc, &request.mutations.as_slice().len(), "2")
+    has_read(alloc, &transaction.into_request())
 }
 
 #[test]
 fn refused_reads_leave_transactions(rt: HostRuntime) -> Result<(), Fail> {
+    let map = stored(rt.alloc())?;
     for row in &ROWS {
-        reads_told(rt.alloc(), row)?;
+        reads_told(rt.alloc(), &map, row)?;
     }
     Ok(())
 }

@@ -4,7 +4,7 @@ use kv_core::Mutation;
 use metadata::{IndexDefinition, Record, Schema};
 use std::alloc::Global;
 use std::test::Fail;
-use test_parts::{alike, cells_asked, mutations_of, schema_asked, text_of};
+use test_parts::{are_mutations, cells_asked, schema_asked, text_of};
 
 /// What the store's keys begin with.
 const PREFIX: [u8; 2] = [0x15, 0x01];
@@ -28,8 +28,8 @@ static WRITTEN: [(&str, &str, &str); 2] = [
 
 fn record_asked(alloc: Global, schema: &Schema, cells: &str) -> Result<Record, Fail> {
     let name = text_of(alloc, "t")?;
-    let cells = cells_asked(alloc, cells)?;
-    Ok(Record::new(alloc, schema, &name, cells)?.copy()?)
+    let record = Record::new(alloc, schema, &name, cells_asked(alloc, cells)?)?;
+    Ok(record.copy()?)
 }
 
 /// What a maintainer writes where a record gives way to another one.
@@ -56,7 +56,7 @@ fn entries_follow_records(rt: HostRuntime) -> Result<(), Fail> {
     let schema = schema_asked(rt.alloc(), SCHEMA)?;
     for (old, new, told) in &WRITTEN {
         let found = written(rt.alloc(), &schema, old, new)?;
-        alike(rt.alloc(), &found, &mutations_of(rt.alloc(), told)?)?;
+        are_mutations(rt.alloc(), &found, told)?;
     }
     Ok(())
 }

@@ -6,8 +6,8 @@ use std::alloc::Global;
 use std::mem;
 use std::test::Fail;
 use test_parts::{
-    alike, bytes_of, digits_of, holds, mutation_of, mutations_of, pair_of, pairs_of, range_of,
-    request_of, same, tells,
+    alike, are_pairs, bytes_of, has_digits, holds, mutation_of, mutations_of, pair_of, pairs_of,
+    range_of, request_of, same, tells,
 };
 
 /// What is done with a map, or asked: a row has a number, a text and what is told.
@@ -105,7 +105,7 @@ static STEPS: [Row; 56] = [
 /// Fails where a value isn't that of these digits, or there is one where `none` is wanted.
 pub(crate) fn has_value(alloc: Global, value: Option<&Bytes>, told: &str) -> Result<(), Fail> {
     match value {
-        Some(value) => same(digits_of(alloc, value.as_slice())?.as_str(), told),
+        Some(value) => has_digits(alloc, value.as_slice(), told),
         None => same("none", told),
     }
 }
@@ -148,21 +148,23 @@ fn read(
     told: &str,
 ) -> Result<(), Fail> {
     let pairs = map.range(&range_of(alloc, range)?, limit, reverse)?;
-    alike(alloc, &pairs, &pairs_of(alloc, told)?)
+    are_pairs(alloc, &pairs, told)
+}
+
+/// The sum of a stored value, or of `none`, and an operand.
+fn sum_of(alloc: Global, stored: &str, operand: &[u8]) -> Result<Vec<u8>, Fail> {
+    if stored == "none" {
+        return Ok(add_le(alloc, None, operand)?);
+    }
+    let stored = bytes_of(alloc, stored)?;
+    Ok(add_le(alloc, Some(stored.as_slice()), operand)?)
 }
 
 fn sum(alloc: Global, text: &str, told: &str) -> Result<(), Fail> {
     let (stored, operand) = text.split_once('+').ok_or("no sum")?;
     let operand = bytes_of(alloc, operand)?;
-    let sum = match stored {
-        "none" => add_le(alloc, None, operand.as_slice())?,
-        stored => add_le(
-            alloc,
-            Some(bytes_of(alloc, stored)?.as_slice()),
-            operand.as_slice(),
-        )?,
-    };
-    same(digits_of(alloc, sum.as_slice())?.as_str(), told)
+    let sum = sum_of(alloc, stored, operand.as_slice())?;
+    has_digits(alloc, sum.as_slice(), told)
 }
 
 fn copied(alloc: Global, mutations: &str) -> Result<(), Fail> {

@@ -1,8 +1,8 @@
 // Byte strings, ranges of keys, lists of ranges and what ranges cover. Run as a test.
-use kv_core::{Coverage, KeyRange, RangeList};
+use kv_core::{Bytes, Coverage, KeyRange, RangeList};
 use std::alloc::Global;
 use std::test::Fail;
-use test_parts::{alike, bytes_of, digits_of, holds, range_of, ranges_of, same, tells};
+use test_parts::{alike, are_ranges, bytes_of, has_digits, holds, range_of, ranges_of, tells};
 
 /// What is asked: a row has two texts and what is told of them.
 #[derive(Clone, Copy)]
@@ -109,27 +109,34 @@ static ROWS: [Row; 59] = [
     (Past, "69", "", "69"),
 ];
 
+fn are_rising(first: &Bytes, second: &Bytes) -> bool {
+    first.compare(second).is_lt()
+        && first.is_before(second)
+        && first.is_upto(second)
+        && !second.is_upto(first)
+        && *first < *second
+}
+
 fn rise(alloc: Global, first: &str, second: &str, told: &str) -> Result<(), Fail> {
     let first = bytes_of(alloc, first)?;
     let second = bytes_of(alloc, second)?;
-    let rises = first.compare(&second).is_lt()
-        && first.is_before(&second)
-        && first.is_upto(&second)
-        && !second.is_upto(&first)
-        && first < second;
-    tells(alloc, &rises, told)
+    tells(alloc, &are_rising(&first, &second), told)
 }
 
 fn next(alloc: Global, key: &str, told: &str) -> Result<(), Fail> {
     let behind = bytes_of(alloc, key)?.next()?;
-    same(digits_of(alloc, behind.as_slice())?.as_str(), told)
+    has_digits(alloc, behind.as_slice(), told)
+}
+
+fn is_copied(key: &Bytes) -> Result<bool, Fail> {
+    let copy = key.copy()?;
+    let clone = key.clone()?;
+    Ok(copy == *key && clone == *key)
 }
 
 fn copied(alloc: Global, key: &str, told: &str) -> Result<(), Fail> {
     let key = bytes_of(alloc, key)?;
-    let copy = key.copy()?;
-    let clone = key.clone()?;
-    tells(alloc, &(copy == key && clone == key), told)
+    tells(alloc, &is_copied(&key)?, told)
 }
 
 fn contains(alloc: Global, range: &str, key: &str, told: &str) -> Result<(), Fail> {
@@ -148,26 +155,30 @@ fn is_own_copy(first: &KeyRange, second: &KeyRange) -> Result<bool, Fail> {
     Ok(*first == copy && first.is_same(&copy) && !first.is_same(second))
 }
 
+fn order_of(first: &KeyRange, second: &KeyRange) -> Result<(bool, bool, bool), Fail> {
+    let rises = *first < *second && first.compare(second).is_lt();
+    let orders = is_own_copy(first, second)? && rises;
+    Ok((orders, first.is_empty(), first.meets(second)))
+}
+
 fn ordered(alloc: Global, first: &str, second: &str, told: &str) -> Result<(), Fail> {
     let first = range_of(alloc, first)?;
     let second = range_of(alloc, second)?;
-    let rises = first < second && first.compare(&second).is_lt();
-    let orders = is_own_copy(&first, &second)? && rises;
-    tells(
-        alloc,
-        &(orders, first.is_empty(), first.meets(&second)),
-        told,
-    )
+    tells(alloc, &order_of(&first, &second)?, told)
 }
 
 /// A part of the range `61-65`.
+fn part_of(call: Call, range: &KeyRange, key: &Bytes) -> Result<KeyRange, Fail> {
+    match call {
+        Upto => Ok(range.upto(key)?),
+        _ => Ok(range.starting_at(key)?),
+    }
+}
+
 fn part(alloc: Global, call: Call, key: &str, told: &str) -> Result<(), Fail> {
     let range = range_of(alloc, "61-65")?;
     let key = bytes_of(alloc, key)?;
-    let part = match call {
-        Upto => range.upto(&key)?,
-        _ => range.starting_at(&key)?,
-    };
+    let part = part_of(call, &range, &key)?;
     alike(alloc, &part, &range_of(alloc, told)?)
 }
 
@@ -180,13 +191,18 @@ fn list_of(alloc: Global, text: &str) -> Result<RangeList, Fail> {
     Ok(list)
 }
 
-/// A list has each of its ranges.
-fn added(alloc: Global, ranges: &str, told: &str) -> Result<(), Fail> {
-    let list = list_of(alloc, ranges)?;
+fn has_each(list: &RangeList, ranges: &str) -> Result<(), Fail> {
     for range in list.as_slice() {
         holds(list.has(range), ranges)?;
     }
-    alike(alloc, &list.as_slice(), &ranges_of(alloc, told)?.as_slice())
+    Ok(())
+}
+
+/// A list has each of its ranges.
+fn added(alloc: Global, ranges: &str, told: &str) -> Result<(), Fail> {
+    let list = list_of(alloc, ranges)?;
+    has_each(&list, ranges)?;
+    are_ranges(alloc, list.as_slice(), told)
 }
 
 /// A copy of the list of ranges as they stand.
@@ -197,11 +213,7 @@ fn standing(alloc: Global, ranges: &str) -> Result<RangeList, Fail> {
 fn stands(alloc: Global, ranges: &str, range: &str) -> Result<(), Fail> {
     let mut list = standing(alloc, ranges)?;
     list.add(range_of(alloc, range)?)?;
-    alike(
-        alloc,
-        &list.as_slice(),
-        &ranges_of(alloc, ranges)?.as_slice(),
-    )
+    are_ranges(alloc, list.as_slice(), ranges)
 }
 
 fn meet(alloc: Global, ranges: &str, other: &str, told: &str) -> Result<(), Fail> {
@@ -225,14 +237,18 @@ fn covered(alloc: Global, key: &str, told: &str) -> Result<(), Fail> {
     tells(alloc, &coverage.covers(&bytes_of(alloc, key)?), told)
 }
 
+fn edge_of(call: Call, coverage: &Coverage, key: &Bytes) -> Result<Bytes, Fail> {
+    match call {
+        Before => Ok(coverage.before(key)?),
+        _ => Ok(coverage.past(key)?),
+    }
+}
+
 fn edge(alloc: Global, call: Call, key: &str, told: &str) -> Result<(), Fail> {
     let coverage = coverage(alloc)?;
     let key = bytes_of(alloc, key)?;
-    let edge = match call {
-        Before => coverage.before(&key)?,
-        _ => coverage.past(&key)?,
-    };
-    same(digits_of(alloc, edge.as_slice())?.as_str(), told)
+    let edge = edge_of(call, &coverage, &key)?;
+    has_digits(alloc, edge.as_slice(), told)
 }
 
 fn answer(alloc: Global, call: Call, texts: (&str, &str), told: &str) -> Result<(), Fail> {

@@ -4,7 +4,7 @@ use metadata::{IndexKind, IndexRequest, MetadataError, Schema};
 use serde_json::Value as Json;
 use std::alloc::Global;
 use std::test::Fail;
-use test_parts::{bytes_of, digits_of, request_asked, same, tells, text_of};
+use test_parts::{bytes_of, has_digits, request_asked, same, tells, text_of};
 use tuple_codec::Text;
 
 /// What is done with a schema, or asked: a row has two texts and what is told.
@@ -323,7 +323,7 @@ fn number(alloc: Global, schema: &Schema, name: &str, told: &str) -> Result<(), 
 
 fn encode(alloc: Global, schema: &Schema, told: &str) -> Result<(), Fail> {
     let bytes = schema.encode(alloc)?;
-    same(digits_of(alloc, &bytes)?.as_str(), told)
+    has_digits(alloc, &bytes, told)
 }
 
 fn decode(alloc: Global, schema: &mut Schema, digits: &str, told: &str) -> Result<(), Fail> {

@@ -5,8 +5,8 @@ use std::alloc::Global;
 use std::mem;
 use std::test::Fail;
 use test_parts::{
-    Watched, alike, bytes_of, mutation_of, mutations_of, pairs_of, range_of, ranges_of, same,
-    shown, tells,
+    Watched, are_mutations, are_pairs, are_ranges, bytes_of, holds, mutation_of, mutations_of,
+    pairs_of, range_of, tells,
 };
 use txn::{RangeCursor, Transaction};
 
@@ -196,11 +196,16 @@ fn begun(alloc: Global, pairs: &str) -> Result<Trial, Fail> {
     })
 }
 
-/// What a transaction tells of a pair that is set, or of a range that is cleared.
-fn write_one(alloc: Global, tx: &mut Transaction, mutation: Mutation) -> Result<String, Fail> {
+/// A pair that is set, or a range that is cleared, of which a transaction tells this.
+fn write_one(
+    alloc: Global,
+    tx: &mut Transaction,
+    mutation: Mutation,
+    told: &str,
+) -> Result<(), Fail> {
     match mutation {
-        Mutation::Set { key, value } => shown(alloc, &tx.set(key, value)),
-        Mutation::ClearRange(range) => shown(alloc, &tx.clear_range(range)),
+        Mutation::Set { key, value } => tells(alloc, &tx.set(key, value), told),
+        Mutation::ClearRange(range) => tells(alloc, &tx.clear_range(range), told),
         Mutation::Add { .. } | Mutation::CompareAndClear { .. } => {
             Err(Fail::from("no pair and no range"))
         }
@@ -208,6 +213,11 @@ fn write_one(alloc: Global, tx: &mut Transaction, mutation: Mutation) -> Result<
 }
 
 impl Trial {
+    fn write(&mut self, alloc: Global, text: &str, told: &str) -> Result<(), Fail> {
+        let mutations = mutations_of(alloc, text)?;
+        tells(alloc, &self.transaction.write_all(mutations), told)
+    }
+
     fn get(&mut self, alloc: Global, key: &str, told: &str) -> Result<(), Fail> {
         let key = bytes_of(alloc, key)?;
         if !key.is_key() {
@@ -232,17 +242,28 @@ impl Trial {
         )
     }
 
+    fn all(&mut self, alloc: Global, range: &str) -> Result<Vec<Pair>, Fail> {
+        let range = range_of(alloc, range)?;
+        Ok(self.transaction.get_all(&self.db, &range)?)
+    }
+
     /// Reads from the front, from the back, or the whole range.
     fn read(&mut self, alloc: Global, row: &Row) -> Result<(), Fail> {
         let (step, limit, range, told) = row;
         let pairs = match step {
             Range => self.range(alloc, range, *limit, false)?,
             Back => self.range(alloc, range, *limit, true)?,
-            _ => self
-                .transaction
-                .get_all(&self.db, &range_of(alloc, range)?)?,
+            _ => self.all(alloc, range)?,
         };
-        alike(alloc, &pairs, &pairs_of(alloc, told)?)
+        are_pairs(alloc, &pairs, told)
+    }
+
+    /// The size of a cursor's next batch, or None at its end.
+    fn size(&mut self, cursor: &mut RangeCursor) -> Result<Option<usize>, Fail> {
+        match cursor.next(&mut self.transaction, &self.db)? {
+            Some(batch) => Ok(Some(batch.len())),
+            None => Ok(None),
+        }
     }
 
     /// Reads by a cursor, whose batches have these sizes.
@@ -255,15 +276,12 @@ impl Trial {
     ) -> Result<(), Fail> {
         let mut cursor = RangeCursor::new(range_of(alloc, range)?, reverse);
         for size in sizes.split_whitespace() {
-            match cursor.next(&mut self.transaction, &self.db)? {
-                Some(batch) => tells(alloc, &batch.len(), size)?,
+            match self.size(&mut cursor)? {
+                Some(found) => tells(alloc, &found, size)?,
                 None => return Err(Fail::from("too few batches")),
             }
         }
-        match cursor.next(&mut self.transaction, &self.db)? {
-            Some(_) => Err(Fail::from("too many batches")),
-            None => Ok(()),
-        }
+        holds(self.size(&mut cursor)?.is_none(), sizes)
     }
 
     /// Ends the transaction, begins another one, and says what is asked of the ended one.
@@ -271,26 +289,22 @@ impl Trial {
         let ended = mem::replace(&mut self.transaction, Transaction::begin(alloc, 0));
         let request = ended.into_request();
         match step {
-            Reads => alike(
-                alloc,
-                &request.reads.as_slice(),
-                &ranges_of(alloc, told)?.as_slice(),
-            ),
-            Mutations => alike(
-                alloc,
-                &request.mutations.as_slice(),
-                &mutations_of(alloc, told)?.as_slice(),
-            ),
+            Reads => are_ranges(alloc, request.reads.as_slice(), told),
+            Mutations => are_mutations(alloc, request.mutations.as_slice(), told),
             _ => tells(alloc, &request.mutations.as_slice().len(), told),
         }
     }
 }
 
-/// What is done with the key of a number: it is cleared, or set with a value of 100,000 bytes, or with the empty one.
-fn numbered(alloc: Global, step: Step, number: u32) -> Result<Mutation, Fail> {
+fn numbered_key(alloc: Global, number: u32) -> Result<Bytes, Fail> {
     let mut key = vec![in alloc; 0x61]?;
     key.extend_from_slice(number.to_be_bytes().as_slice())?;
-    let key = Bytes::new(key);
+    Ok(Bytes::new(key))
+}
+
+/// What is done with the key of a number: it is cleared, or set with a value of 100,000 bytes, or with the empty one.
+fn numbered(alloc: Global, step: Step, number: u32) -> Result<Mutation, Fail> {
+    let key = numbered_key(alloc, number)?;
     let length = match step {
         ClearEach if key.is_key() => return Ok(Mutation::ClearRange(KeyRange::point(alloc, &key)?)),
         SetLarge => 99_995,
@@ -306,39 +320,36 @@ fn repeat(alloc: Global, trial: &mut Trial, step: Step, count: usize) -> Result<
         let mutation = numbered(alloc, step, number)?;
         match step {
             Fill => trial.db.map.apply(&mutation)?,
-            _ => same(
-                write_one(alloc, &mut trial.transaction, mutation)?.as_str(),
-                "Ok(())",
-            )?,
+            _ => write_one(alloc, &mut trial.transaction, mutation, "Ok(())")?,
         }
     }
+    Ok(())
+}
+
+fn renew(alloc: Global, trial: &mut Trial, pairs: &str) -> Result<(), Fail> {
+    *trial = begun(alloc, pairs)?;
     Ok(())
 }
 
 fn take(alloc: Global, trial: &mut Trial, row: &Row) -> Result<(), Fail> {
     let (step, number, text, told) = row;
     match step {
-        New => *trial = begun(alloc, text)?,
-        One => {
-            let mutation = mutation_of(alloc, text)?;
-            return same(
-                write_one(alloc, &mut trial.transaction, mutation)?.as_str(),
-                told,
-            );
-        }
-        Write => {
-            let mutations = mutations_of(alloc, text)?;
-            return tells(alloc, &trial.transaction.write_all(mutations), told);
-        }
-        Get => return trial.get(alloc, text, told),
-        Range | Back | All => return trial.read(alloc, row),
-        Batches => return trial.batches(alloc, text, false, told),
-        BackBatches => return trial.batches(alloc, text, true, told),
-        Count => return tells(alloc, &trial.db.reads(), told),
-        Reads | Mutations | Length => return trial.end(alloc, *step, told),
-        Fill | ClearEach | SetLarge => return repeat(alloc, trial, *step, *number),
+        New => renew(alloc, trial, text),
+        One => write_one(
+            alloc,
+            &mut trial.transaction,
+            mutation_of(alloc, text)?,
+            told,
+        ),
+        Write => trial.write(alloc, text, told),
+        Get => trial.get(alloc, text, told),
+        Range | Back | All => trial.read(alloc, row),
+        Batches => trial.batches(alloc, text, false, told),
+        BackBatches => trial.batches(alloc, text, true, told),
+        Count => tells(alloc, &trial.db.reads(), told),
+        Reads | Mutations | Length => trial.end(alloc, *step, told),
+        Fill | ClearEach | SetLarge => repeat(alloc, trial, *step, *number),
     }
-    Ok(())
 }
 
 #[test]

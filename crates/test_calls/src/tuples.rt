@@ -1,7 +1,7 @@
 // The order of tuples, keys under a prefix, and copies of texts and byte strings. Run as a test.
 use std::alloc::Global;
 use std::test::Fail;
-use test_parts::{bytes_of, digits_of, same, tells, text_of};
+use test_parts::{bytes_of, digits_of, has_digits, same, tells, text_of};
 use tuple_codec::{ByteString, Subspace, Tuple, compare, pack_into, strinc, unpack};
 
 /// What is asked: a row has two texts and what is told of them.
@@ -94,7 +94,7 @@ fn text_copied(alloc: Global, text: &str, told: &str) -> Result<(), Fail> {
 
 fn bytes_copied(alloc: Global, digits: &str, told: &str) -> Result<(), Fail> {
     let copy = ByteString::new(hex::decode(alloc, digits)?).copy()?;
-    same(digits_of(alloc, copy.into_vec().as_slice())?.as_str(), told)
+    has_digits(alloc, copy.into_vec().as_slice(), told)
 }
 
 fn subspace(alloc: Global) -> Result<Subspace, Fail> {
@@ -142,7 +142,7 @@ fn within(alloc: Global, prefix: &str, told: &str) -> Result<(), Fail> {
 
 fn behind(alloc: Global, digits: &str, told: &str) -> Result<(), Fail> {
     match strinc(alloc, bytes_of(alloc, digits)?.as_slice())? {
-        Some(end) => same(digits_of(alloc, end.as_slice())?.as_str(), told),
+        Some(end) => has_digits(alloc, end.as_slice(), told),
         None => same("none", told),
     }
 }

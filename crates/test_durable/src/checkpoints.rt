@@ -37,6 +37,23 @@ fn is_made<D: Device>(alloc: Global, db: &mut Checkpointed<D>) -> Result<bool, F
     }
 }
 
+/// Commits the run's transaction at this place, and tells whether it was. Where it wasn't, it isn't
+/// known what became of it.
+fn is_committed<D: Device>(
+    alloc: Global,
+    db: &mut Checkpointed<D>,
+    place: usize,
+) -> Result<bool, Fail> {
+    let asked = request(alloc, place)?;
+    match db.commit(alloc, asked) {
+        Ok(_) => Ok(true),
+        Err(error) => {
+            holds(matches!(error, CommitError::Unknown), "a failed commit")?;
+            Ok(false)
+        }
+    }
+}
+
 /// Commits the run's transactions from this place on, with its checkpoints, and tells how many are
 /// acknowledged.
 fn committed<D: Device>(
@@ -48,8 +65,7 @@ fn committed<D: Device>(
         if is_checkpointed(place) && !is_made(alloc, db)? {
             return Ok(place);
         }
-        if let Err(error) = db.commit(alloc, request(alloc, place)?) {
-            holds(matches!(error, CommitError::Unknown), "a failed commit")?;
+        if !is_committed(alloc, db, place)? {
             return Ok(place);
         }
     }
@@ -68,29 +84,35 @@ fn file_of(alloc: Global, device: Fuse<Memory>) -> Result<Vec<u8>, Fail> {
     Ok(device.into_inner().bytes().to_vec(alloc)?)
 }
 
+fn files_of(
+    alloc: Global,
+    count: usize,
+    one: Fuse<Memory>,
+    other: Fuse<Memory>,
+) -> Result<Files, Fail> {
+    let one = file_of(alloc, one)?;
+    let other = file_of(alloc, other)?;
+    Ok(Files { count, one, other })
+}
+
+/// The run over a new database, and what is left of its devices.
+fn left_after(alloc: Global, mut db: Checkpointed<Fuse<Memory>>) -> Result<Files, Fail> {
+    let count = committed(alloc, &mut db, 0)?;
+    let (log, spare) = db.into_devices();
+    files_of(alloc, count, log, spare)
+}
+
 /// A run over two devices, and what is left of them.
 fn left(alloc: Global, first: Fuse<Memory>, second: Fuse<Memory>) -> Result<Files, Fail> {
     match open_two(alloc, first, second) {
-        Ok(mut db) => {
-            let count = committed(alloc, &mut db, 0)?;
-            let (log, spare) = db.into_devices();
-            Ok(Files {
-                count,
-                one: file_of(alloc, log)?,
-                other: file_of(alloc, spare)?,
-            })
-        }
+        Ok(db) => left_after(alloc, db),
         Err(
             UnopenedTwo {
                 first,
                 second,
                 error: _,
             },
-        ) => Ok(Files {
-            count: 0,
-            one: file_of(alloc, first)?,
-            other: file_of(alloc, second)?,
-        }),
+        ) => files_of(alloc, 0, first, second),
     }
 }
 
@@ -113,7 +135,7 @@ fn opened_anew(
                 second: _,
                 error,
             },
-        ) => Err(Fail::new(format_args!("{error}"))),
+        ) => Err(Fail::new(error)),
     }
 }
 
@@ -141,9 +163,8 @@ fn calls_of(device: usize, call: usize) -> [usize; 2] {
 fn goes_on(
     alloc: Global,
     wanted: &[Vec<(Bytes, Bytes)>],
-    db: Checkpointed<Memory>,
+    mut db: Checkpointed<Memory>,
 ) -> Result<(), Fail> {
-    let mut db = db;
     let found = match db.image() {
         Some(image) => image.version() as usize,
         None => COUNT,
@@ -151,14 +172,40 @@ fn goes_on(
     let count = committed(alloc, &mut db, found)?;
     holds(count == COUNT, "the rest")?;
     let (log, spare) = db.into_devices();
-    let files = Files {
-        count,
-        one: spare.bytes().to_vec(alloc)?,
-        other: log.bytes().to_vec(alloc)?,
-    };
-    let last = opened_anew(alloc, wanted, files)?;
-    drop(last);
+    let files = swapped(alloc, count, log.bytes(), spare.bytes())?;
+    let _last = opened_anew(alloc, wanted, files)?;
     Ok(())
+}
+
+/// Copies of two files in the other order.
+fn swapped(alloc: Global, count: usize, one: &[u8], other: &[u8]) -> Result<Files, Fail> {
+    let first = other.to_vec(alloc)?;
+    let second = one.to_vec(alloc)?;
+    Ok(Files {
+        count,
+        one: first,
+        other: second,
+    })
+}
+
+/// After so many calls a device fails, and nothing acknowledged is lost. False says that the run was
+/// through before.
+fn is_outlived(
+    alloc: Global,
+    wanted: &[Vec<(Bytes, Bytes)>],
+    calls: [usize; 2],
+    round: usize,
+) -> Result<bool, Fail> {
+    let torn = TORN.get(round % 5).ok_or("a part")?;
+    let files = left_by(alloc, calls, *torn)?;
+    if files.count == COUNT {
+        return Ok(false);
+    }
+    let db = opened_anew(alloc, wanted, files)?;
+    if round % 9 == 5 {
+        goes_on(alloc, wanted, db)?;
+    }
+    Ok(true)
 }
 
 /// Every fourth call of a device fails in turn, from this one on: nothing acknowledged is lost.
@@ -167,17 +214,8 @@ fn outlive(alloc: Global, device: usize, first: usize) -> Result<(), Fail> {
     let calls = CALLS.get(device).ok_or("a device")?;
     for round in 0..ROUNDS {
         let call = round.wrapping_mul(4).wrapping_add(first);
-        if call >= *calls {
+        if call >= *calls || !is_outlived(alloc, &wanted, calls_of(device, call), round)? {
             break;
-        }
-        let torn = TORN.get(round % 5).ok_or("a part")?;
-        let files = left_by(alloc, calls_of(device, call), *torn)?;
-        if files.count == COUNT {
-            break;
-        }
-        let db = opened_anew(alloc, &wanted, files)?;
-        if round % 9 == 5 {
-            goes_on(alloc, &wanted, db)?;
         }
     }
     Ok(())
@@ -227,18 +265,15 @@ fn other_failed_syncs_of_the_second_device_are_outlived(rt: HostRuntime) -> Resu
 /// handed over first.
 #[test]
 fn whole_runs_are_opened(rt: HostRuntime) -> Result<(), Fail> {
-    let alloc = rt.alloc();
-    let wanted = databases(alloc)?;
-    let files = left_by(alloc, CALLS, 0)?;
+    let wanted = databases(rt.alloc())?;
+    let files = left_by(rt.alloc(), CALLS, 0)?;
     holds(files.count == COUNT, "a whole run")?;
-    let swapped = Files {
-        count: files.count,
-        one: files.other.to_vec(alloc)?,
-        other: files.one.to_vec(alloc)?,
-    };
-    let db = opened_anew(alloc, &wanted, files)?;
-    drop(db);
-    let again = opened_anew(alloc, &wanted, swapped)?;
-    drop(again);
+    are_opened(rt.alloc(), &wanted, files)
+}
+
+fn are_opened(alloc: Global, wanted: &[Vec<(Bytes, Bytes)>], files: Files) -> Result<(), Fail> {
+    let swapped = swapped(alloc, files.count, &files.one, &files.other)?;
+    drop(opened_anew(alloc, wanted, files)?);
+    drop(opened_anew(alloc, wanted, swapped)?);
     Ok(())
 }

@@ -14,32 +14,54 @@ static TORN: [usize; 4] = [0, 20, 60, 1000];
 /// time that it writes room ahead.
 const CALLS: usize = 2 * COUNT + 24;
 
+/// Commits the run's transaction at this place, and tells whether it was. Where it wasn't, it isn't
+/// known what became of it.
+fn is_committed<D: Device>(alloc: Global, db: &mut Durable<D>, place: usize) -> Result<bool, Fail> {
+    let asked = request(alloc, place)?;
+    match db.commit(alloc, asked) {
+        Ok(_) => Ok(true),
+        Err(error) => {
+            holds(matches!(error, CommitError::Unknown), "a failed commit")?;
+            Ok(false)
+        }
+    }
+}
+
+/// Nothing more is committed, and nothing is read.
+fn is_closed<D: Device>(alloc: Global, db: &mut Durable<D>, place: usize) -> Result<(), Fail> {
+    let asked = request(alloc, place)?;
+    let is_closed = matches!(db.commit(alloc, asked), Err(CommitError::Closed));
+    holds(is_closed, "a closed one")?;
+    holds(db.image().is_none(), "what is read of a closed one")
+}
+
 /// Commits the run's transactions from this place on, and tells how many are acknowledged.
 fn committed<D: Device>(alloc: Global, db: &mut Durable<D>, from: usize) -> Result<usize, Fail> {
     for place in from..COUNT {
-        if let Err(error) = db.commit(alloc, request(alloc, place)?) {
-            holds(matches!(error, CommitError::Unknown), "a failed commit")?;
-            let next = db.commit(alloc, request(alloc, place)?);
-            holds(matches!(next, Err(CommitError::Closed)), "a closed one")?;
-            holds(db.image().is_none(), "what is read of a closed one")?;
+        if !is_committed(alloc, db, place)? {
+            is_closed(alloc, db, place)?;
             return Ok(place);
         }
     }
     Ok(COUNT)
 }
 
+fn bytes_of(alloc: Global, device: Fuse<Memory>) -> Result<Vec<u8>, Fail> {
+    Ok(device.into_inner().bytes().to_vec(alloc)?)
+}
+
+/// The run over a new database: the same.
+fn left_after(alloc: Global, mut db: Durable<Fuse<Memory>>) -> Result<(usize, Vec<u8>), Fail> {
+    let count = committed(alloc, &mut db, 0)?;
+    Ok((count, bytes_of(alloc, db.into_device())?))
+}
+
 /// A run over a device that fails once: how many transactions are acknowledged, and what file is
 /// left.
 fn left(alloc: Global, device: Fuse<Memory>) -> Result<(usize, Vec<u8>), Fail> {
     match open(alloc, device) {
-        Ok(mut db) => {
-            let count = committed(alloc, &mut db, 0)?;
-            let file = db.into_device().into_inner();
-            Ok((count, file.bytes().to_vec(alloc)?))
-        }
-        Err(Unopened { device, error: _ }) => {
-            Ok((0, device.into_inner().bytes().to_vec(alloc)?))
-        }
+        Ok(db) => left_after(alloc, db),
+        Err(Unopened { device, error: _ }) => Ok((0, bytes_of(alloc, device)?)),
     }
 }
 
@@ -56,8 +78,25 @@ fn opened_anew(
             has_all(alloc, wanted, count, db.image())?;
             Ok(db)
         }
-        Err(Unopened { device: _, error }) => Err(Fail::new(format_args!("{error}"))),
+        Err(Unopened { device: _, error }) => Err(Fail::new(error)),
     }
+}
+
+/// A database that was opened anew takes the rest of the run, and is opened again.
+fn goes_on(
+    alloc: Global,
+    wanted: &[Vec<(Bytes, Bytes)>],
+    mut db: Durable<Memory>,
+    count: usize,
+) -> Result<(), Fail> {
+    let found = match db.image() {
+        Some(image) => image.version() as usize,
+        None => count,
+    };
+    holds(committed(alloc, &mut db, found)? == COUNT, "the rest")?;
+    let file = db.into_device().bytes().to_vec(alloc)?;
+    let _last = opened_anew(alloc, wanted, COUNT, file)?;
+    Ok(())
 }
 
 /// After a failure the file has all acknowledged transactions, and the next one whole or not at
@@ -70,15 +109,9 @@ fn is_whole(
 ) -> Result<usize, Fail> {
     let memory = Memory::new(alloc, Vec::new(alloc));
     let (count, file) = left(alloc, Fuse::new(memory, calls, torn))?;
-    let mut db = opened_anew(alloc, wanted, count, file)?;
+    let db = opened_anew(alloc, wanted, count, file)?;
     if calls / 4 % 5 == 3 {
-        let found = match db.image() {
-            Some(image) => image.version() as usize,
-            None => count,
-        };
-        holds(committed(alloc, &mut db, found)? == COUNT, "the rest")?;
-        let file = db.into_device().bytes().to_vec(alloc)?;
-        let _last = opened_anew(alloc, wanted, COUNT, file)?;
+        goes_on(alloc, wanted, db, count)?;
     }
     Ok(count)
 }

@@ -3,6 +3,8 @@ use crate::parts::holds;
 use crate::run::{databases, is_after, request};
 use durable::{Durable, Unopened, open};
 use journal_file::FileDevice;
+use kv_core::Bytes;
+use std::alloc::Global;
 use std::path::PathBuf;
 use std::test::Fail;
 use std::{env, fs, process};
@@ -26,34 +28,68 @@ fn opened(rt: &HostRuntime, path: &str) -> Result<Durable<FileDevice>, Fail> {
     }
 }
 
+/// After how many transactions of the run a database is.
+fn count_of(
+    alloc: Global,
+    wanted: &[Vec<(Bytes, Bytes)>],
+    db: &Durable<FileDevice>,
+) -> Result<usize, Fail> {
+    match db.image() {
+        Some(image) => is_after(alloc, wanted, image),
+        None => Err(Fail::from("a closed one")),
+    }
+}
+
+/// Commits four transactions of the run, from this place on.
+fn commit_four(alloc: Global, db: &mut Durable<FileDevice>, from: usize) -> Result<(), Fail> {
+    for place in from..from.saturating_add(4) {
+        let asked = request(alloc, place)?;
+        db.commit(alloc, asked)?;
+    }
+    Ok(())
+}
+
+/// A database goes on where the last one ended, or one transaction earlier: where it ends.
+fn goes_on(
+    rt: &HostRuntime,
+    path: &str,
+    wanted: &[Vec<(Bytes, Bytes)>],
+    count: usize,
+) -> Result<usize, Fail> {
+    let mut db = opened(rt, path)?;
+    let found = count_of(rt.alloc(), wanted, &db)?;
+    holds(count.wrapping_sub(found) <= 1, "what was committed")?;
+    commit_four(rt.alloc(), &mut db, found)?;
+    Ok(found.wrapping_add(4))
+}
+
+/// Cuts a file short. Besides zeros less than the block of an entry goes, so no more than the last one does.
+fn cut(rt: &HostRuntime, path: &str, round: usize) -> Result<(), Fail> {
+    let bytes = fs::read(rt, path)?;
+    let zeros = bytes.iter().rev().take_while(|byte| **byte == 0).count();
+    let len = bytes.len().saturating_sub(zeros + 1 + round * 7 % 40);
+    fs::write(rt, path, bytes.get(..len).ok_or("a length")?)?;
+    Ok(())
+}
+
+fn outlive(rt: &HostRuntime, path: &str) -> Result<(), Fail> {
+    let wanted = databases(rt.alloc())?;
+    let mut count: usize = 0;
+    for round in 0..40 {
+        count = goes_on(rt, path, &wanted, count)?;
+        if round % 3 == 0 {
+            cut(rt, path, round)?;
+        }
+    }
+    Ok(())
+}
+
 /// A database goes on where the last one ended, also from a file that is cut short.
 #[test]
 fn databases_outlive_their_process(rt: HostRuntime) -> Result<(), Fail> {
-    let alloc = rt.alloc();
-    let wanted = databases(alloc)?;
     let folder = new_folder(&rt, "outlive")?;
-    let path = folder.as_path().join(alloc, "log")?;
-    let mut count: usize = 0;
-    for round in 0..40 {
-        let mut db = opened(&rt, path.as_str())?;
-        let found = match db.image() {
-            Some(image) => is_after(alloc, &wanted, image)?,
-            None => return Err(Fail::new(format_args!("a closed one"))),
-        };
-        holds(count.wrapping_sub(found) <= 1, "what was committed")?;
-        count = found.wrapping_add(4);
-        for place in found..count {
-            db.commit(alloc, request(alloc, place)?)?;
-        }
-        drop(db);
-        if round % 3 == 0 {
-            // Besides zeros less than the block of an entry goes, so no more than the last one does.
-            let bytes = fs::read(&rt, path.as_str())?;
-            let zeros = bytes.iter().rev().take_while(|byte| **byte == 0).count();
-            let len = bytes.len().saturating_sub(zeros + 1 + round * 7 % 40);
-            fs::write(&rt, path.as_str(), bytes.get(..len).ok_or("a length")?)?;
-        }
-    }
+    let path = folder.as_path().join(rt.alloc(), "log")?;
+    outlive(&rt, path.as_str())?;
     fs::remove_dir_all(&rt, folder)?;
     Ok(())
 }

@@ -36,21 +36,28 @@ pub fn field(alloc: Global, text: &str, kind: Kind) -> Result<Field, Fail> {
     })
 }
 
-/// A type of these fields, of which the first is the key.
-fn typed(alloc: Global, text: &str, fields: &[(&str, Kind)]) -> Result<TypeRequest, Fail> {
+fn fields_of(alloc: Global, fields: &[(&str, Kind)]) -> Result<Fields, Fail> {
     let mut made = Vec::new(alloc);
     for (text, kind) in fields {
         made.push(field(alloc, text, *kind)?)?;
     }
-    let key = match fields.first() {
-        Some((key, _)) => names(alloc, &[*key])?,
-        None => names(alloc, &[])?,
-    };
-    Ok(TypeRequest {
-        name: name(alloc, text)?,
-        fields: Fields::new(made),
-        key,
-    })
+    Ok(Fields::new(made))
+}
+
+/// The name of the first field.
+fn key_of(alloc: Global, fields: &[(&str, Kind)]) -> Result<Names, Fail> {
+    match fields.first() {
+        Some((key, _)) => names(alloc, &[*key]),
+        None => names(alloc, &[]),
+    }
+}
+
+/// A type of these fields, of which the first is the key.
+fn typed(alloc: Global, text: &str, fields: &[(&str, Kind)]) -> Result<TypeRequest, Fail> {
+    let key = key_of(alloc, fields)?;
+    let fields = fields_of(alloc, fields)?;
+    let name = name(alloc, text)?;
+    Ok(TypeRequest { name, fields, key })
 }
 
 /// An index of books by their author.
@@ -69,6 +76,12 @@ pub fn by_author(alloc: Global, text: &str, kind: IndexKind) -> Result<IndexRequ
     })
 }
 
+fn indexes(alloc: Global) -> Result<Vec<IndexRequest>, Fail> {
+    let authors = by_author(alloc, "authors", IndexKind::Value)?;
+    let sums = by_author(alloc, "sums", IndexKind::Sum)?;
+    Ok(vec![in alloc; authors, sums]?)
+}
+
 /// Makes the store: books, and an index of each kind but COUNT over them.
 pub fn store(alloc: Global) -> Result<Change, Fail> {
     let fields = [
@@ -76,12 +89,8 @@ pub fn store(alloc: Global) -> Result<Change, Fail> {
         ("author", Kind::Text),
         ("pages", Kind::Int),
     ];
-    let mut types = Vec::new(alloc);
-    types.push(typed(alloc, "book", &fields)?)?;
-    let mut indexes = Vec::new(alloc);
-    indexes.push(by_author(alloc, "authors", IndexKind::Value)?)?;
-    indexes.push(by_author(alloc, "sums", IndexKind::Sum)?)?;
-    Ok(Change::Create(SchemaRequest::new(types, indexes)))
+    let types = vec![in alloc; typed(alloc, "book", &fields)?]?;
+    Ok(Change::Create(SchemaRequest::new(types, indexes(alloc)?)))
 }
 
 /// A type of authors.
@@ -90,33 +99,29 @@ pub fn authors(alloc: Global) -> Result<Change, Fail> {
     Ok(Change::Type(request))
 }
 
+fn cells(alloc: Global, id: i64, author: &str, pages: i64) -> Result<Cells, Fail> {
+    let author = Cell::Text(name(alloc, author)?);
+    Ok(Cells::new(vec![in alloc; Cell::Int(id), author, Cell::Int(pages)]?))
+}
+
 /// A book.
 pub fn save(alloc: Global, id: i64, author: &str, pages: i64) -> Result<Change, Fail> {
-    let mut cells = Vec::new(alloc);
-    cells.push(Cell::Int(id))?;
-    cells.push(Cell::Text(name(alloc, author)?))?;
-    cells.push(Cell::Int(pages))?;
-    Ok(Change::Save(name(alloc, "book")?, Cells::new(cells)))
+    let book = name(alloc, "book")?;
+    Ok(Change::Save(book, cells(alloc, id, author, pages)?))
 }
 
 /// No book of this number.
 pub fn remove(alloc: Global, id: i64) -> Result<Change, Fail> {
-    let mut cells = Vec::new(alloc);
-    cells.push(Cell::Int(id))?;
-    Ok(Change::Remove(name(alloc, "book")?, Cells::new(cells)))
+    let cells = Cells::new(vec![in alloc; Cell::Int(id)]?);
+    Ok(Change::Remove(name(alloc, "book")?, cells))
 }
 
 /// One change.
 pub fn one(alloc: Global, change: Change) -> Result<Changes, Fail> {
-    let mut changes = Vec::new(alloc);
-    changes.push(change)?;
-    Ok(Changes::new(changes))
+    Ok(Changes::new(vec![in alloc; change]?))
 }
 
 /// Two changes.
 pub fn two(alloc: Global, first: Change, second: Change) -> Result<Changes, Fail> {
-    let mut changes = Vec::new(alloc);
-    changes.push(first)?;
-    changes.push(second)?;
-    Ok(Changes::new(changes))
+    Ok(Changes::new(vec![in alloc; first, second]?))
 }

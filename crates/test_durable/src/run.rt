@@ -29,36 +29,42 @@ fn books(alloc: Global, place: usize) -> Result<Changes, Fail> {
 
 /// An author, and the year of birth.
 fn author(alloc: Global) -> Result<Changes, Fail> {
-    let mut cells = Vec::new(alloc);
-    cells.push(Cell::Text(name(alloc, "Ann")?))?;
-    cells.push(Cell::Null)?;
-    one(
-        alloc,
-        Change::Save(name(alloc, "author")?, Cells::new(cells)),
-    )
+    let author = name(alloc, "author")?;
+    let ann = Cell::Text(name(alloc, "Ann")?);
+    let cells = Cells::new(vec![in alloc; ann, Cell::Null]?);
+    one(alloc, Change::Save(author, cells))
+}
+
+/// A field for it.
+fn born(alloc: Global) -> Result<Changes, Fail> {
+    let born = field(alloc, "born", Kind::Int)?;
+    one(alloc, Change::Field(name(alloc, "author")?, born))
+}
+
+/// What the transaction at this place changes of the COUNT index.
+fn counts(alloc: Global, place: usize) -> Result<Change, Fail> {
+    let counts = name(alloc, "counts")?;
+    match place {
+        21 => Ok(Change::WriteOnly(counts)),
+        27 => Ok(Change::Readable(counts)),
+        60 => Ok(Change::Disable(counts)),
+        80 => Ok(Change::Drop(counts)),
+        _ => Ok(Change::Build(counts, 5)),
+    }
 }
 
 /// What the transaction at this place of the run changes.
 fn changes(alloc: Global, place: usize) -> Result<Changes, Fail> {
-    let counts = name(alloc, "counts")?;
     match place {
-        0 => one(alloc, store(alloc)?),
-        20 => {
-            let asked = by_author(alloc, "counts", IndexKind::Count)?;
-            one(alloc, Change::Index(asked))
-        }
-        21 => one(alloc, Change::WriteOnly(counts)),
-        22..=26 => one(alloc, Change::Build(counts, 5)),
-        27 => one(alloc, Change::Readable(counts)),
+        0 | 102 => one(alloc, store(alloc)?),
+        20 => one(
+            alloc,
+            Change::Index(by_author(alloc, "counts", IndexKind::Count)?),
+        ),
+        21..=27 | 60 | 80 => one(alloc, counts(alloc, place)?),
         40 => one(alloc, authors(alloc)?),
-        41 => {
-            let born = field(alloc, "born", Kind::Int)?;
-            one(alloc, Change::Field(name(alloc, "author")?, born))
-        }
+        41 => born(alloc),
         42 => author(alloc),
-        60 => one(alloc, Change::Disable(counts)),
-        80 => one(alloc, Change::Drop(counts)),
-        102 => one(alloc, store(alloc)?),
         _ => books(alloc, place),
     }
 }
@@ -87,18 +93,23 @@ pub fn pairs_of(alloc: Global, map: &KvMap) -> Result<Vec<(Bytes, Bytes)>, Fail>
     Ok(map.range(&range, usize::MAX, false)?)
 }
 
+/// The database after the transaction at this place of the run.
+fn next(alloc: Global, mut image: Image, place: usize) -> Result<Image, Fail> {
+    let asked = request(alloc, place)?;
+    let version = image.version().wrapping_add(1);
+    match image.perform(alloc, asked.store, asked.changes) {
+        Ok(done) => Ok(image.accept(version, &done.mutations)?),
+        Err(error) => Err(Fail::new(format_args!("transaction {place}: {error}"))),
+    }
+}
+
 /// The pairs after so many transactions of the run, from none to all.
 pub fn databases(alloc: Global) -> Result<Vec<Vec<(Bytes, Bytes)>>, Fail> {
     let mut image = Image::new(alloc);
     let mut made = Vec::new(alloc);
     made.push(pairs_of(alloc, image.map())?)?;
     for place in 0..COUNT {
-        let asked = request(alloc, place)?;
-        let version = image.version().wrapping_add(1);
-        match image.perform(alloc, asked.store, asked.changes) {
-            Ok(done) => image = image.accept(version, &done.mutations)?,
-            Err(error) => return Err(Fail::new(format_args!("transaction {place}: {error}"))),
-        }
+        image = next(alloc, image, place)?;
         made.push(pairs_of(alloc, image.map())?)?;
     }
     Ok(made)

@@ -1,6 +1,6 @@
 // A device that fails in each call of a run, with what it writes there torn. Run as tests.
 use crate::parts::{BATCHES, appended, are_first, damage_of, holds};
-use journal::{Fuse, Kept, Memory, Unrecovered, recover};
+use journal::{Fuse, Journal, Kept, Memory, Unrecovered, recover};
 use std::alloc::Global;
 use std::test::Fail;
 
@@ -8,18 +8,22 @@ use std::test::Fail;
 /// entry, all.
 static TORN: [usize; 5] = [0, 1, 20, 70, 1_000_000];
 
+fn bytes_left(alloc: Global, device: Fuse<Memory>) -> Result<Vec<u8>, Fail> {
+    Ok(device.into_inner().bytes().to_vec(alloc)?)
+}
+
+/// How many batches a journal acknowledges, and what file is left.
+fn after(alloc: Global, mut journal: Journal<Fuse<Memory>>) -> Result<(usize, Vec<u8>), Fail> {
+    let count = appended(alloc, &mut journal)?;
+    Ok((count, bytes_left(alloc, journal.into_device())?))
+}
+
 /// A run over a device that fails once: how many batches are acknowledged, and what file is left.
 fn left(alloc: Global, device: Fuse<Memory>) -> Result<(usize, Vec<u8>), Fail> {
     let mut kept = Kept::new(alloc);
     match recover(alloc, device, &mut kept) {
-        Ok(mut journal) => {
-            let count = appended(alloc, &mut journal)?;
-            let file = journal.into_device().into_inner();
-            Ok((count, file.bytes().to_vec(alloc)?))
-        }
-        Err(Unrecovered { device, error: _ }) => {
-            Ok((0, device.into_inner().bytes().to_vec(alloc)?))
-        }
+        Ok(journal) => after(alloc, journal),
+        Err(Unrecovered { device, error: _ }) => Ok((0, bytes_left(alloc, device)?)),
     }
 }
 

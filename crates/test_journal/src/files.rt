@@ -1,5 +1,5 @@
 // Files of the operating system: cut short at each length, with another byte at each place, in use,
-// and in a folder that takes none. Run as tests.
+// and in a folder that takes none. Run as a test.
 use crate::parts::{
     BATCHES, ENTRIES, appended, are_first, block_at, holds, looked_at, looks_torn, whole_file,
 };
@@ -12,15 +12,71 @@ use std::path::PathBuf;
 use std::test::Fail;
 use std::{env, fs, process};
 
-/// A new folder for a test's files. Its name has that of the test and the process's number.
-fn new_folder(rt: &HostRuntime, name: &str) -> Result<PathBuf, Fail> {
+/// What is done with the file `log` of a new folder.
+#[derive(Clone, Copy)]
+enum Trial {
+    /// Entries outlive their journal.
+    Outlive,
+    /// A file that is cut short to any length takes more.
+    Cut,
+    /// One with another byte at any place is told as damaged, and stays.
+    Damage,
+    /// Only one device has a file, until it is let go.
+    Busy,
+    /// A file that can't be made isn't opened.
+    Refuse,
+    /// Nothing is read from the first write on.
+    Read,
+}
+
+/// What is tried, each in a folder with this name in its own.
+static TRIALS: [(&str, Trial); 6] = [
+    ("outlive", Trial::Outlive),
+    ("cut", Trial::Cut),
+    ("damaged", Trial::Damage),
+    ("busy", Trial::Busy),
+    ("refused", Trial::Refuse),
+    ("reads", Trial::Read),
+];
+
+/// The path of a folder for a trial's file. Its name has that of the trial and the process's number.
+fn folder_of(rt: &HostRuntime, name: &str) -> Result<PathBuf, Fail> {
     let number = process::id(rt.process());
     let folder = format!(in rt.alloc(); "test_journal_{name}_{number}")?;
-    let path = env::temp_dir(rt)?
-        .as_path()
-        .join(rt.alloc(), folder.as_str())?;
-    fs::create_dir(rt, &path)?;
-    Ok(path)
+    Ok(
+        env::temp_dir(rt)?
+            .as_path()
+            .join(rt.alloc(), folder.as_str())?,
+    )
+}
+
+fn try_file(rt: &HostRuntime, trial: Trial, folder: &str, path: &str) -> Result<(), Fail> {
+    match trial {
+        Trial::Outlive => entries_outlive(rt, path),
+        Trial::Cut => cut_files_take_more(rt, path),
+        Trial::Damage => damaged_files_stay(rt, path),
+        Trial::Busy => is_busy(rt, path),
+        Trial::Refuse => is_refused(rt, folder),
+        Trial::Read => reads_end(rt, path),
+    }
+}
+
+/// Makes the folder, tries its file, and takes the folder away.
+fn try_in(rt: &HostRuntime, trial: Trial, folder: &str) -> Result<(), Fail> {
+    fs::create_dir(rt, folder)?;
+    let path = format!(in rt.alloc(); "{folder}/log")?;
+    try_file(rt, trial, folder, path.as_str())?;
+    fs::remove_dir_all(rt, folder)?;
+    Ok(())
+}
+
+#[test]
+fn files_are_kept(rt: HostRuntime) -> Result<(), Fail> {
+    for (name, trial) in &TRIALS {
+        let folder = folder_of(&rt, name)?;
+        try_in(&rt, *trial, folder.as_str())?;
+    }
+    Ok(())
 }
 
 /// What a file is: one with a journal, or damaged at this place.
@@ -36,163 +92,199 @@ fn read_file(rt: &HostRuntime, path: &str, kept: &mut Kept) -> Result<Found, Fai
         Ok(journal) => Ok(Found::Whole(journal)),
         Err(Unrecovered { device: _, error }) => match error {
             RecoverError::Damage(at) => Ok(Found::Damaged(at)),
-            _ => Err(Fail::new(format_args!("another refusal"))),
+            _ => Err(Fail::from("another refusal")),
         },
-    }
-}
-
-fn journal_of(rt: &HostRuntime, path: &str, kept: &mut Kept) -> Result<Journal<FileDevice>, Fail> {
-    match read_file(rt, path, kept)? {
-        Found::Whole(journal) => Ok(journal),
-        Found::Damaged(at) => Err(Fail::new(format_args!("damage at {at}"))),
     }
 }
 
 /// Appends the run's batches to a file that has these many entries.
 fn append_to(rt: &HostRuntime, path: &str, count: usize) -> Result<(), Fail> {
     let mut kept = Kept::new(rt.alloc());
-    let mut journal = journal_of(rt, path, &mut kept)?;
-    holds(kept.entries().len() == count, "entries before")?;
-    let done = appended(rt.alloc(), &mut journal)?;
-    holds(done == BATCHES.len(), "batches")
+    match read_file(rt, path, &mut kept)? {
+        Found::Whole(mut journal) => {
+            let done = appended(rt.alloc(), &mut journal)?;
+            holds(
+                done == BATCHES.len() && kept.entries().len() == count,
+                "entries before, and batches",
+            )
+        }
+        Found::Damaged(_) => Err(Fail::from("damage")),
+    }
 }
 
-#[test]
-fn entries_outlive_the_journal(rt: HostRuntime) -> Result<(), Fail> {
-    let folder = new_folder(&rt, "outlive")?;
-    let path = folder.as_path().join(rt.alloc(), "log")?;
-    append_to(&rt, path.as_str(), 0)?;
-    let bytes = fs::read(&rt, path.as_str())?;
-    holds(bytes == whole_file(rt.alloc())?, "the bytes of a file")?;
-    append_to(&rt, path.as_str(), ENTRIES.len())?;
-    append_to(&rt, path.as_str(), 2 * ENTRIES.len())?;
-    fs::remove_dir_all(&rt, folder)?;
-    Ok(())
+/// The file is as the one in memory.
+fn is_whole(rt: &HostRuntime, path: &str) -> Result<(), Fail> {
+    let bytes = fs::read(rt, path)?;
+    let whole = whole_file(rt.alloc())?;
+    holds(bytes == whole, "the bytes of a file")
+}
+
+fn entries_outlive(rt: &HostRuntime, path: &str) -> Result<(), Fail> {
+    append_to(rt, path, 0)?;
+    is_whole(rt, path)?;
+    append_to(rt, path, ENTRIES.len())?;
+    append_to(rt, path, 2 * ENTRIES.len())
+}
+
+fn damage_in(rt: &HostRuntime, path: &str, kept: &mut Kept) -> Result<Option<usize>, Fail> {
+    match read_file(rt, path, kept)? {
+        Found::Whole(_) => Ok(None),
+        Found::Damaged(at) => Ok(Some(at)),
+    }
+}
+
+/// How many entries a file has that isn't damaged.
+fn entries_in(rt: &HostRuntime, path: &str) -> Result<usize, Fail> {
+    let mut kept = Kept::new(rt.alloc());
+    match damage_in(rt, path, &mut kept)? {
+        None => Ok(kept.entries().len()),
+        Some(at) => Err(Fail::new(format_args!("damage at {at}"))),
+    }
 }
 
 /// A file that is cut short to any length has the entries of its whole blocks, and takes more.
 fn is_cut(rt: &HostRuntime, path: &str, file: &[u8], len: usize) -> Result<(), Fail> {
     fs::write(rt, path, file.get(..len).ok_or("a length")?)?;
     append_to(rt, path, block_at(len).0)?;
-    let mut kept = Kept::new(rt.alloc());
-    let _journal = journal_of(rt, path, &mut kept)?;
     holds(
-        kept.entries().len().checked_sub(ENTRIES.len()) == Some(block_at(len).0),
+        entries_in(rt, path)?.checked_sub(ENTRIES.len()) == Some(block_at(len).0),
         "entries after a cut",
     )
 }
 
-#[test]
-fn cut_files_take_more(rt: HostRuntime) -> Result<(), Fail> {
-    let folder = new_folder(&rt, "cut")?;
-    let path = folder.as_path().join(rt.alloc(), "log")?;
+fn cut_files_take_more(rt: &HostRuntime, path: &str) -> Result<(), Fail> {
     let file = looked_at(rt.alloc())?;
     for len in (0..file.len()).step_by(7) {
-        is_cut(&rt, path.as_str(), &file, len)?;
+        is_cut(rt, path, &file, len)?;
     }
-    fs::remove_dir_all(&rt, folder)?;
     Ok(())
 }
 
-/// Another byte is damage, unless it looks as if a crash had left it. Its place is told, and the
-/// file stays as it is.
-fn is_damaged(rt: &HostRuntime, path: &str, file: &[u8], place: usize) -> Result<(), Fail> {
-    let (blocks, gate) = block_at(place);
+/// The bytes with another one at a place.
+fn changed(rt: &HostRuntime, file: &[u8], place: usize) -> Result<Vec<u8>, Fail> {
     let mut bytes = file.to_vec(rt.alloc())?;
     if let Some(byte) = bytes.get_mut(place) {
         *byte ^= 1;
     }
-    let is_end = looks_torn(&bytes, gate, place);
-    fs::write(rt, path, bytes.as_slice())?;
-    let mut kept = Kept::new(rt.alloc());
-    let found = read_file(rt, path, &mut kept)?;
-    holds(
-        is_end || matches!(found, Found::Damaged(at) if at == gate),
-        "a damaged byte",
-    )?;
-    holds(are_first(kept.entries(), blocks), "entries before it")?;
-    let left = fs::read(rt, path)?;
-    holds(is_end || left == bytes, "the bytes of a damaged file")
+    Ok(bytes)
 }
 
-#[test]
-fn damaged_files_stay(rt: HostRuntime) -> Result<(), Fail> {
-    let folder = new_folder(&rt, "damaged")?;
-    let path = folder.as_path().join(rt.alloc(), "log")?;
+/// The gate at which a file is told as damaged, or None. It has so many entries before it.
+fn told_of(rt: &HostRuntime, path: &str, blocks: usize) -> Result<Option<usize>, Fail> {
+    let mut kept = Kept::new(rt.alloc());
+    let damage = damage_in(rt, path, &mut kept)?;
+    holds(are_first(kept.entries(), blocks), "entries before it")?;
+    Ok(damage)
+}
+
+/// Whether a file has these bytes.
+fn has_bytes(rt: &HostRuntime, path: &str, bytes: &[u8]) -> Result<bool, Fail> {
+    let left = fs::read(rt, path)?;
+    Ok(left.as_slice() == bytes)
+}
+
+/// The bytes of a file are told as damaged, and stay, unless they look as if a crash had left them.
+fn stays(rt: &HostRuntime, path: &str, bytes: &[u8], place: usize) -> Result<(), Fail> {
+    let (blocks, gate) = block_at(place);
+    let is_end = looks_torn(bytes, gate, place);
+    fs::write(rt, path, bytes)?;
+    let damage = told_of(rt, path, blocks)?;
+    holds(is_end || damage == Some(gate), "a damaged byte")?;
+    let is_same = has_bytes(rt, path, bytes)?;
+    holds(is_end || is_same, "the bytes of a damaged file")
+}
+
+/// Another byte is damage, unless it looks as if a crash had left it. Its place is told, and the
+/// file stays as it is.
+fn damaged_files_stay(rt: &HostRuntime, path: &str) -> Result<(), Fail> {
     let file = looked_at(rt.alloc())?;
     for place in 0..253 {
-        is_damaged(&rt, path.as_str(), &file, place)?;
+        let bytes = changed(rt, &file, place)?;
+        stays(rt, path, &bytes, place)?;
     }
-    fs::remove_dir_all(&rt, folder)?;
     Ok(())
+}
+
+fn is_in_use(rt: &HostRuntime, path: &str) -> bool {
+    matches!(FileDevice::open(rt, rt.alloc(), path), Err(OpenError::Busy))
 }
 
 /// Only one device has a file, until it is let go.
-#[test]
-fn a_file_in_use_is_busy(rt: HostRuntime) -> Result<(), Fail> {
-    let folder = new_folder(&rt, "busy")?;
-    let path = folder.as_path().join(rt.alloc(), "log")?;
-    let device = FileDevice::open(&rt, rt.alloc(), path.as_str())?;
-    holds(
-        matches!(
-            FileDevice::open(&rt, rt.alloc(), path.as_str()),
-            Err(OpenError::Busy)
-        ),
-        "a file in use",
-    )?;
+fn is_busy(rt: &HostRuntime, path: &str) -> Result<(), Fail> {
+    let device = FileDevice::open(rt, rt.alloc(), path)?;
+    let is_in_use = is_in_use(rt, path);
     drop(device);
-    append_to(&rt, path.as_str(), 0)?;
-    fs::remove_dir_all(&rt, folder)?;
-    Ok(())
+    holds(is_in_use, "a file in use")?;
+    append_to(rt, path, 0)
+}
+
+/// Whether a folder has a file opened, whether it has one written, and whether no file is opened in
+/// one that it hasn't.
+fn opened_in(rt: &HostRuntime, folder: &str) -> Result<bool, Fail> {
+    let path = format!(in rt.alloc(); "{folder}/log")?;
+    Ok(FileDevice::open(rt, rt.alloc(), path.as_str()).is_ok())
+}
+
+fn written_in(rt: &HostRuntime, folder: &str) -> Result<bool, Fail> {
+    let path = format!(in rt.alloc(); "{folder}/other")?;
+    Ok(fs::write(rt, path.as_str(), b"".as_slice()).is_ok())
+}
+
+fn missing_in(rt: &HostRuntime, folder: &str) -> Result<bool, Fail> {
+    let path = format!(in rt.alloc(); "{folder}/missing/log")?;
+    Ok(matches!(
+        FileDevice::open(rt, rt.alloc(), path.as_str()),
+        Err(OpenError::Io(_))
+    ))
 }
 
 /// A file that can't be made isn't opened. Whom the system lets write anywhere writes there too.
-#[test]
-fn a_file_that_cannot_be_written_is_refused(rt: HostRuntime) -> Result<(), Fail> {
-    let folder = new_folder(&rt, "refused")?;
-    let path = folder.as_path().join(rt.alloc(), "log")?;
-    fs::set_permissions(&rt, &folder, Permissions::from_mode(0o555))?;
-    let is_open = FileDevice::open(&rt, rt.alloc(), path.as_str()).is_ok();
-    let other = folder.as_path().join(rt.alloc(), "other")?;
-    let may_write = fs::write(&rt, &other, b"".as_slice()).is_ok();
-    holds(is_open == may_write, "a folder that takes no file")?;
-    let missing = folder.as_path().join(rt.alloc(), "missing/log")?;
+fn is_refused(rt: &HostRuntime, folder: &str) -> Result<(), Fail> {
+    fs::set_permissions(rt, folder, Permissions::from_mode(0o555))?;
+    let is_open = opened_in(rt, folder)?;
     holds(
-        matches!(
-            FileDevice::open(&rt, rt.alloc(), missing.as_str()),
-            Err(OpenError::Io(_))
-        ),
-        "a folder that isn't there",
+        is_open == written_in(rt, folder)?,
+        "a folder that takes no file",
     )?;
-    fs::set_permissions(&rt, &folder, Permissions::from_mode(0o755))?;
-    fs::remove_dir_all(&rt, folder)?;
+    holds(missing_in(rt, folder)?, "a folder that isn't there")?;
+    fs::set_permissions(rt, folder, Permissions::from_mode(0o755))?;
     Ok(())
 }
 
-/// What was read is told until something is written, and nothing is read from then on.
-#[test]
-fn reads_end_with_the_first_write(rt: HostRuntime) -> Result<(), Fail> {
-    let folder = new_folder(&rt, "reads")?;
-    let path = folder.as_path().join(rt.alloc(), "log")?;
-    fs::write(&rt, &path, b"abcde".as_slice())?;
-    let mut device = FileDevice::open(&rt, rt.alloc(), path.as_str())?;
-    holds(
-        device.read_at(rt.alloc(), 1, 3)?.as_slice() == b"bcd".as_slice(),
-        "a read",
-    )?;
-    holds(
-        device.read_at(rt.alloc(), 4, 9)?.as_slice() == b"e".as_slice(),
-        "its end",
-    )?;
+fn is_read(
+    alloc: Global,
+    device: &mut FileDevice,
+    (at, len): (usize, usize),
+    wanted: &[u8],
+) -> Result<(), Fail> {
+    let found = device.read_at(alloc, at, len)?;
+    holds(found.as_slice() == wanted, "a read")
+}
+
+/// What was read is told until something is written.
+fn is_told(alloc: Global, device: &mut FileDevice) -> Result<(), Fail> {
+    is_read(alloc, device, (1, 3), b"bcd")?;
+    is_read(alloc, device, (4, 9), b"e")
+}
+
+/// Nothing is read from the first write on.
+fn is_changed(alloc: Global, device: &mut FileDevice) -> Result<(), Fail> {
     holds(device.len()? == 5, "the length that was read")?;
     device.write_at(3, b"xyz")?;
-    holds(device.read_at(rt.alloc(), 1, 3).is_err(), "a late read")?;
+    holds(device.read_at(alloc, 1, 3).is_err(), "a late read")?;
     holds(device.len()? == 6, "its length")?;
     device.cut(2)?;
-    device.sync()?;
-    drop(device);
-    let left = fs::read(&rt, &path)?;
-    holds(left.as_slice() == b"ab".as_slice(), "its bytes")?;
-    fs::remove_dir_all(&rt, folder)?;
-    Ok(())
+    Ok(device.sync()?)
+}
+
+fn is_told_and_changed(rt: &HostRuntime, path: &str) -> Result<(), Fail> {
+    let mut device = FileDevice::open(rt, rt.alloc(), path)?;
+    is_told(rt.alloc(), &mut device)?;
+    is_changed(rt.alloc(), &mut device)
+}
+
+fn reads_end(rt: &HostRuntime, path: &str) -> Result<(), Fail> {
+    fs::write(rt, path, b"abcde".as_slice())?;
+    is_told_and_changed(rt, path)?;
+    holds(has_bytes(rt, path, b"ab")?, "its bytes")
 }

@@ -11,8 +11,8 @@ mod worked;
 
 pub use asking::{cells_asked, request_asked, schema_asked};
 pub use parts::{
-    alike, holds, mutation_of, mutations_of, pair_of, pairs_of, range_of, ranges_of, report_text,
-    request_of, same, shown, tells,
+    alike, are_mutations, are_pairs, are_ranges, has_digits, holds, mutation_of, mutations_of,
+    pair_of, pairs_of, range_of, ranges_of, report_text, request_of, same, shown, tells,
 };
 pub use session::Session;
 pub use snapshots::Watched;

@@ -3,7 +3,7 @@
 // it clears. Nothing is promised here: so a test that calls many functions is proved over little.
 use crate::words::{bytes_of, digits_of};
 use cluster_core::Reported;
-use kv_core::{CommitRequest, KeyRange, Mutation, Mutations, Pair, RangeList};
+use kv_core::{Bytes, CommitRequest, KeyRange, Mutation, Mutations, Pair, RangeList};
 use std::alloc::Global;
 use std::fmt::Debug;
 use std::test::Fail;
@@ -40,18 +40,49 @@ pub fn tells<D: Debug>(alloc: Global, found: &D, wanted: &str) -> Result<(), Fai
     same(shown(alloc, found)?.as_str(), wanted)
 }
 
-/// The range of a word, or the point of a key.
-pub fn range_of(alloc: Global, word: &str) -> Result<KeyRange, Fail> {
-    if let Some((begin, end)) = word.split_once('-') {
-        let begin = bytes_of(alloc, begin)?;
-        let end = bytes_of(alloc, end)?;
-        return Ok(KeyRange::new(begin, end).ok_or("no lawful range")?);
-    }
+/// Fails where bytes don't have these digits.
+pub fn has_digits(alloc: Global, found: &[u8], wanted: &str) -> Result<(), Fail> {
+    same(digits_of(alloc, found)?.as_str(), wanted)
+}
+
+/// Fails where ranges aren't those of words.
+pub fn are_ranges(alloc: Global, found: &[KeyRange], wanted: &str) -> Result<(), Fail> {
+    alike(alloc, &found, &ranges_of(alloc, wanted)?.as_slice())
+}
+
+/// Fails where pairs aren't those of words.
+pub fn are_pairs(alloc: Global, found: &[Pair], wanted: &str) -> Result<(), Fail> {
+    alike(alloc, &found, &pairs_of(alloc, wanted)?.as_slice())
+}
+
+/// Fails where mutations aren't those of words.
+pub fn are_mutations(alloc: Global, found: &[Mutation], wanted: &str) -> Result<(), Fail> {
+    alike(alloc, &found, &mutations_of(alloc, wanted)?.as_slice())
+}
+
+/// The bytes of two texts of digits.
+fn both_of(alloc: Global, first: &str, second: &str) -> Result<(Bytes, Bytes), Fail> {
+    let first = bytes_of(alloc, first)?;
+    Ok((first, bytes_of(alloc, second)?))
+}
+
+fn point_of(alloc: Global, word: &str) -> Result<KeyRange, Fail> {
     let key = bytes_of(alloc, word)?;
     if !key.is_key() {
         return Err(Fail::from("no key"));
     }
     Ok(KeyRange::point(alloc, &key)?)
+}
+
+/// The range of a word, or the point of a key.
+pub fn range_of(alloc: Global, word: &str) -> Result<KeyRange, Fail> {
+    match word.split_once('-') {
+        Some((begin, end)) => {
+            let (begin, end) = both_of(alloc, begin, end)?;
+            Ok(KeyRange::new(begin, end).ok_or("no lawful range")?)
+        }
+        None => point_of(alloc, word),
+    }
 }
 
 /// The ranges of words.
@@ -66,8 +97,7 @@ pub fn ranges_of(alloc: Global, text: &str) -> Result<Vec<KeyRange>, Fail> {
 /// The pair of a word, as `61=01`.
 pub fn pair_of(alloc: Global, word: &str) -> Result<Pair, Fail> {
     let (key, value) = word.split_once('=').ok_or("no pair")?;
-    let key = bytes_of(alloc, key)?;
-    Ok((key, bytes_of(alloc, value)?))
+    both_of(alloc, key, value)
 }
 
 /// The pairs of words.
@@ -82,13 +112,11 @@ pub fn pairs_of(alloc: Global, text: &str) -> Result<Vec<Pair>, Fail> {
 /// The mutation of a word.
 pub fn mutation_of(alloc: Global, word: &str) -> Result<Mutation, Fail> {
     if let Some((key, operand)) = word.split_once('+') {
-        let key = bytes_of(alloc, key)?;
-        let operand = bytes_of(alloc, operand)?;
+        let (key, operand) = both_of(alloc, key, operand)?;
         return Ok(Mutation::Add { key, operand });
     }
     if let Some((key, operand)) = word.split_once('?') {
-        let key = bytes_of(alloc, key)?;
-        let operand = bytes_of(alloc, operand)?;
+        let (key, operand) = both_of(alloc, key, operand)?;
         return Ok(Mutation::CompareAndClear { key, operand });
     }
     if word.contains('-') {
@@ -123,15 +151,17 @@ pub fn request_of(
     })
 }
 
+fn conflict_text(alloc: Global, seen: u64, range: &KeyRange) -> Result<String, Fail> {
+    let begin = digits_of(alloc, range.begin().as_slice())?;
+    let end = digits_of(alloc, range.end().as_slice())?;
+    Ok(format!(in alloc; "conflict {seen} {}-{}", begin.as_str(), end.as_str())?)
+}
+
 /// What a report tells: of a conflict the version seen and the range.
 pub fn report_text(alloc: Global, reported: &Reported) -> Result<String, Fail> {
     match reported {
         Reported::Committed(version) => Ok(format!(in alloc; "committed {version}")?),
-        Reported::Conflict { seen, range } => {
-            let begin = digits_of(alloc, range.begin().as_slice())?;
-            let end = digits_of(alloc, range.end().as_slice())?;
-            Ok(format!(in alloc; "conflict {seen} {}-{}", begin.as_str(), end.as_str())?)
-        }
+        Reported::Conflict { seen, range } => conflict_text(alloc, *seen, range),
         Reported::NothingToDo => Ok(String::from_str(alloc, "NothingToDo")?),
     }
 }

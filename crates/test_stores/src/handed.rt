@@ -1,17 +1,16 @@
 // Rows of plans that are handed out one by one, all of them or only the first ones. Run as a test.
 use crate::queries::filled;
-use crate::scene::command_of;
-use json_forms::rows_text;
+use crate::scene::have_text;
+use json_forms::{query_of, value_of};
 use kv_core::KvMap;
 use metadata::{Cells, Record};
 use plan_exec::{ExecError, execute_each, plan_for_store};
 use planner::Plan;
 use query::Query;
 use record_store::Store;
-use schedule::Command;
 use std::alloc::{AllocError, Global};
 use std::test::Fail;
-use test_parts::{alike, same};
+use test_parts::alike;
 use txn::Transaction;
 
 /// Under which key the store of commands stands.
@@ -20,33 +19,31 @@ const PREFIX: [u8; 2] = [0x15, 0x01];
 /// Queries over 130 records, how many rows they have, and the first three of these.
 static HANDED: [(&str, usize, &str); 4] = [
     (
-        r#"["query",0,{"type":"t","filter":["or",["<","k",2],[">","k",127]]}]"#,
+        r#"{"type":"t","filter":["or",["<","k",2],[">","k",127]]}"#,
         4,
         "[[0,7,8],[1,7,8],[128,7,8]]",
     ),
     (
-        r#"["query",0,{"type":"t","filter":["and",["=","a",7],["=","b",8],["<","k",4]]}]"#,
+        r#"{"type":"t","filter":["and",["=","a",7],["=","b",8],["<","k",4]]}"#,
         4,
         "[[0,7,8],[1,7,8],[2,7,8]]",
     ),
     (
-        r#"["query",0,{"type":"t","filter":["or",[">","a",6],["<","b",0]]}]"#,
+        r#"{"type":"t","filter":["or",[">","a",6],["<","b",0]]}"#,
         130,
         "[[0,7,8],[1,7,8],[2,7,8]]",
     ),
     (
-        r#"["query",0,{"type":"t","filter":["<","k",3],"sort":["k"],"reverse":true}]"#,
+        r#"{"type":"t","filter":["<","k",3],"sort":["k"],"reverse":true}"#,
         3,
         "[[2,7,8],[1,7,8],[0,7,8]]",
     ),
 ];
 
-/// The query of a script's step.
-fn asked(alloc: Global, step: &str) -> Result<Query, Fail> {
-    match command_of(alloc, step)? {
-        Command::Query(asked) => Ok(asked.query().copy(alloc)?),
-        _ => Err(Fail::from("no query")),
-    }
+/// The query that a text asks for.
+fn asked(alloc: Global, text: &str) -> Result<Query, Fail> {
+    let value = value_of(alloc, text.as_bytes())?;
+    Ok(query_of(alloc, &value)?)
 }
 
 /// An open store, and the plan of a query over it.
@@ -71,11 +68,22 @@ fn first_rows(
 ) -> Result<(Vec<Cells>, Result<(), ExecError>), Fail> {
     let mut tx = Transaction::begin(alloc, 0);
     let (store, plan) = planned(alloc, &mut tx, db, query)?;
+    Ok(taken(alloc, db, &mut tx, &store, &plan, most))
+}
+
+fn taken(
+    alloc: Global,
+    db: &KvMap,
+    tx: &mut Transaction,
+    store: &Store,
+    plan: &Plan,
+    most: usize,
+) -> (Vec<Cells>, Result<(), ExecError>) {
     let mut rows = Vec::new(alloc);
     let ended = execute_each(
-        &plan,
-        &store,
-        &mut tx,
+        plan,
+        store,
+        tx,
         db,
         &mut |row: Record| {
             if rows.len() == most {
@@ -85,13 +93,7 @@ fn first_rows(
             Ok(())
         },
     );
-    Ok((rows, ended))
-}
-
-/// The rows have this text.
-fn have_text(alloc: Global, rows: &[Cells], text: &str) -> Result<(), Fail> {
-    let found = rows_text(alloc, rows)?;
-    same(found.as_str(), text)
+    (rows, ended)
 }
 
 /// All rows are handed out.
@@ -120,13 +122,17 @@ fn three_are_handed_out(
     alike(alloc, &ended.is_err(), &(row.1 > 3))
 }
 
+fn are_handed_out(alloc: Global, db: &KvMap, row: &(&str, usize, &str)) -> Result<(), Fail> {
+    let query = asked(alloc, row.0)?;
+    all_are_handed_out(alloc, db, &query, row)?;
+    three_are_handed_out(alloc, db, &query, row)
+}
+
 #[test]
 fn rows_are_handed_out(rt: HostRuntime) -> Result<(), Fail> {
     let db = filled(rt.alloc(), 130)?;
     for row in &HANDED {
-        let query = asked(rt.alloc(), row.0)?;
-        all_are_handed_out(rt.alloc(), &db, &query, row)?;
-        three_are_handed_out(rt.alloc(), &db, &query, row)?;
+        are_handed_out(rt.alloc(), &db, row)?;
     }
     Ok(())
 }

@@ -1,13 +1,10 @@
 // Queries each of whose reads is refused in turn, in a transaction that has written. Run as a test.
-use crate::scene::command_of;
+use crate::scene::{command_of, is_told, line_of};
 use cluster_core::ReadError;
 use kv_core::KvMap;
-use record_store::StoreNumber;
-use schedule::perform;
-use script::make_line;
 use std::alloc::Global;
 use std::test::Fail;
-use test_parts::{Watched, alike, mutations_of, same, tells};
+use test_parts::{Watched, alike, are_mutations, tells};
 use txn::{FailAt, Snapshot, Transaction};
 
 /// The steps that make the store that stands, and those of the transaction before it queries.
@@ -86,6 +83,17 @@ static LONG: [(u32, &str, &str); 4] = [
     ),
 ];
 
+/// Performs the command of a step: the line that it makes.
+fn answer<S: Snapshot>(
+    alloc: Global,
+    db: &S,
+    tx: &mut Transaction,
+    step: &str,
+) -> Result<String, Fail> {
+    let command = command_of(alloc, step)?;
+    line_of(alloc, db, tx, &command)
+}
+
 /// Performs the command of a step, which must make this line.
 fn answers<S: Snapshot>(
     alloc: Global,
@@ -94,12 +102,8 @@ fn answers<S: Snapshot>(
     step: &str,
     told: &str,
 ) -> Result<(), Fail> {
-    let command = command_of(alloc, step)?;
-    let reply = perform(alloc, &command, StoreNumber::first(), tx, db)?;
-    let mut line = String::new(alloc);
-    make_line(alloc, &mut line, 1, &reply)?;
-    let wanted = format!(in alloc; "1 {told}\n")?;
-    same(line.as_str(), wanted.as_str())
+    let line = answer(alloc, db, tx, step)?;
+    is_told(alloc, line.as_str(), told)
 }
 
 /// Performs the commands of steps, whatever they reply: what they wrote is compared later.
@@ -110,10 +114,15 @@ fn accepted<S: Snapshot>(
     steps: &[&'static str],
 ) -> Result<(), Fail> {
     for step in steps {
-        let command = command_of(alloc, step)?;
-        let _reply = perform(alloc, &command, StoreNumber::first(), tx, db)?;
+        let _line = answer(alloc, db, tx, step)?;
     }
     Ok(())
+}
+
+/// What a transaction makes of a map.
+fn committed(db: KvMap, tx: Transaction) -> Result<KvMap, Fail> {
+    let request = tx.into_request();
+    Ok(db.with_all(request.mutations.as_slice())?)
 }
 
 /// The store that stands.
@@ -121,29 +130,36 @@ fn stored(alloc: Global) -> Result<KvMap, Fail> {
     let db = KvMap::new(alloc);
     let mut tx = Transaction::begin(alloc, 0);
     accepted(alloc, &db, &mut tx, &MADE)?;
+    committed(db, tx)
+}
+
+/// A transaction over it that has written.
+fn written(alloc: Global, map: &KvMap) -> Result<Transaction, Fail> {
+    let mut tx = Transaction::begin(alloc, 0);
+    accepted(alloc, map, &mut tx, &OWN)?;
+    Ok(tx)
+}
+
+fn has_written(alloc: Global, tx: Transaction) -> Result<(), Fail> {
     let request = tx.into_request();
-    Ok(db.with_all(request.mutations.as_slice())?)
+    are_mutations(alloc, request.mutations.as_slice(), WRITTEN)
 }
 
 /// The read of this number is refused: so is the query, and it is answered when it is performed again. The
 /// transaction's writes stay.
-fn refused_at(alloc: Global, at: u64, row: &(&str, u64, &str)) -> Result<(), Fail> {
+fn refused_at(alloc: Global, map: &KvMap, at: u64, row: &(&str, u64, &str)) -> Result<(), Fail> {
     let (query, _, rows) = row;
-    let map = stored(alloc)?;
-    let mut tx = Transaction::begin(alloc, 0);
-    accepted(alloc, &map, &mut tx, &OWN)?;
-    let db = FailAt::new(&map, at, ReadError::TooOld);
+    let mut tx = written(alloc, map)?;
+    let db = FailAt::new(map, at, ReadError::TooOld);
     answers(alloc, &db, &mut tx, query, "refused TooOld")?;
     answers(alloc, &db, &mut tx, query, rows)?;
-    let request = tx.into_request();
-    let wanted = mutations_of(alloc, WRITTEN)?;
-    alike(alloc, &request.mutations.as_slice(), &wanted.as_slice())
+    has_written(alloc, tx)
 }
 
 /// Each read of a query is refused in turn.
-fn each_refused(alloc: Global, row: &(&str, u64, &str)) -> Result<(), Fail> {
+fn each_refused(alloc: Global, map: &KvMap, row: &(&str, u64, &str)) -> Result<(), Fail> {
     for read in 0..row.1 {
-        refused_at(alloc, read + 1, row)?;
+        refused_at(alloc, map, read + 1, row)?;
     }
     Ok(())
 }
@@ -152,8 +168,7 @@ fn each_refused(alloc: Global, row: &(&str, u64, &str)) -> Result<(), Fail> {
 fn reads_taken(alloc: Global, row: &(&str, u64, &str)) -> Result<(), Fail> {
     let (query, reads, rows) = row;
     let map = stored(alloc)?;
-    let mut tx = Transaction::begin(alloc, 0);
-    accepted(alloc, &map, &mut tx, &OWN)?;
+    let mut tx = written(alloc, &map)?;
     let db = Watched::new(map);
     answers(alloc, &db, &mut tx, query, rows)?;
     alike(alloc, &db.reads(), reads)
@@ -161,9 +176,18 @@ fn reads_taken(alloc: Global, row: &(&str, u64, &str)) -> Result<(), Fail> {
 
 #[test]
 fn refused_queries_leave_transactions(rt: HostRuntime) -> Result<(), Fail> {
+    let map = stored(rt.alloc())?;
     for row in &ROWS {
         reads_taken(rt.alloc(), row)?;
-        each_refused(rt.alloc(), row)?;
+        each_refused(rt.alloc(), &map, row)?;
+    }
+    Ok(())
+}
+
+fn save_all(alloc: Global, db: &KvMap, tx: &mut Transaction, records: u32) -> Result<(), Fail> {
+    for key in 0..records {
+        let step = format!(in alloc; "[\"save\",0,\"t\",[{key},7,8]]")?;
+        answers(alloc, db, tx, step.as_str(), "saved new")?;
     }
     Ok(())
 }
@@ -173,12 +197,8 @@ pub(crate) fn filled(alloc: Global, records: u32) -> Result<KvMap, Fail> {
     let db = KvMap::new(alloc);
     let mut tx = Transaction::begin(alloc, 0);
     accepted(alloc, &db, &mut tx, &MADE[..1])?;
-    for key in 0..records {
-        let step = format!(in alloc; "[\"save\",0,\"t\",[{key},7,8]]")?;
-        answers(alloc, &db, &mut tx, step.as_str(), "saved new")?;
-    }
-    let request = tx.into_request();
-    Ok(db.with_all(request.mutations.as_slice())?)
+    save_all(alloc, &db, &mut tx, records)?;
+    committed(db, tx)
 }
 
 /// A query over so many records takes so many reads.

@@ -1,9 +1,7 @@
 // Commands each of whose reads of the database is refused in turn. Run as a test.
-use crate::scene::command_of;
+use crate::scene::{command_of, is_told, line_of};
 use cluster_core::ReadError;
-use record_store::StoreNumber;
-use schedule::{Command, perform};
-use script::make_line;
+use schedule::Command;
 use std::alloc::Global;
 use std::test::Fail;
 use test_parts::{Action, Session, WORKED, Worked, same};
@@ -23,16 +21,8 @@ fn tried(
 ) -> Result<(String, bool), Fail> {
     let tx = session.open.get_mut(client).ok_or("no such client")?;
     let failing = FailAt::new(&session.cluster, at, ReadError::FutureVersion);
-    let reply = perform(alloc, command, StoreNumber::first(), tx, &failing)?;
-    let mut line = String::new(alloc);
-    make_line(alloc, &mut line, 1, &reply)?;
+    let line = line_of(alloc, &failing, tx, command)?;
     Ok((line, failing.reads() >= at))
-}
-
-/// The line tells this.
-fn is_told(alloc: Global, line: &str, told: &str) -> Result<(), Fail> {
-    let wanted = format!(in alloc; "1 {told}\n")?;
-    same(line, wanted.as_str())
 }
 
 /// Each read of a command is refused in turn, and so is the command; then it is told this.
@@ -58,14 +48,18 @@ fn ask(alloc: Global, session: &mut Session, row: &Worked) -> Result<(), Fail> {
     each_refused(alloc, session, row.1, &command, row.3)
 }
 
+fn open(alloc: Global, session: &mut Session) -> Result<(), Fail> {
+    *session = Session::new(alloc)?;
+    Ok(())
+}
+
 fn take(alloc: Global, session: &mut Session, row: &Worked) -> Result<(), Fail> {
     match row.0 {
-        Action::Open => *session = Session::new(alloc)?,
-        Action::Begin => session.begin(alloc, row.1)?,
-        Action::Ask => ask(alloc, session, row)?,
-        Action::Commit => session.commit(alloc, row.1, row.3)?,
+        Action::Open => open(alloc, session),
+        Action::Begin => session.begin(alloc, row.1),
+        Action::Ask => ask(alloc, session, row),
+        Action::Commit => session.commit(alloc, row.1, row.3),
     }
-    Ok(())
 }
 
 #[test]

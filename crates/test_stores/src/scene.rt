@@ -2,17 +2,18 @@
 // `stores`, `joining` and `queries`.
 use json_forms::rows_text;
 use kv_core::{Bytes, CommitRequest, KvMap, WriteError};
-use metadata::Record;
-use record_store::{Store, StoreError, StoreNumber};
-use schedule::{Command, Step as Scripted, perform};
+use metadata::{Cells, Record, Schema};
+use record_store::{Records as Found, Store, StoreError, StoreNumber};
+use schedule::{Command, Reply, Step as Scripted, perform};
 use script::{make_line, script_of};
 use std::alloc::Global;
 use std::mem;
 use std::test::Fail;
 use test_parts::{
-    alike, bytes_of, cells_asked, mutations_of, pair_of, same, schema_asked, shown, tells, text_of,
+    are_mutations, bytes_of, cells_asked, pair_of, same, schema_asked, tells, text_of,
 };
-use txn::Transaction;
+use tuple_codec::Text;
+use txn::{Snapshot, Transaction};
 
 /// What is done with a map and a transaction over it: a row has two texts and what is told.
 #[derive(Clone, Copy)]
@@ -58,36 +59,52 @@ pub(crate) struct Scene {
     prefix: Bytes,
 }
 
-/// Performs a command, and makes the line of its reply.
-fn performed(scene: &mut Scene, command: &Command) -> Result<String, Fail> {
-    let mut line = String::new(scene.alloc);
-    let reply = perform(
-        scene.alloc,
-        command,
-        StoreNumber::first(),
-        &mut scene.tx,
-        &scene.db,
-    )?;
-    make_line(scene.alloc, &mut line, 1, &reply)?;
+/// The line of a reply.
+fn told_line(alloc: Global, reply: &Reply) -> Result<String, Fail> {
+    let mut line = String::new(alloc);
+    make_line(alloc, &mut line, 1, reply)?;
     Ok(line)
+}
+
+/// Performs a command, and makes the line of its reply.
+pub(crate) fn line_of<S: Snapshot>(
+    alloc: Global,
+    db: &S,
+    tx: &mut Transaction,
+    command: &Command,
+) -> Result<String, Fail> {
+    let reply = perform(alloc, command, StoreNumber::first(), tx, db)?;
+    told_line(alloc, &reply)
+}
+
+/// The line tells this.
+pub(crate) fn is_told(alloc: Global, line: &str, told: &str) -> Result<(), Fail> {
+    let wanted = format!(in alloc; "1 {told}\n")?;
+    same(line, wanted.as_str())
+}
+
+fn last_step(alloc: Global, script: &str) -> Result<Option<Scripted>, Fail> {
+    let mut script = script_of(alloc, script.as_bytes())?;
+    Ok(script.steps.pop())
 }
 
 /// The command of a script's step.
 pub(crate) fn command_of(alloc: Global, step: &str) -> Result<Command, Fail> {
-    let mut text = String::from_str(alloc, r#"{"steps":["#)?;
-    text.push_str(step)?;
-    text.push_str("]}")?;
-    match script_of(alloc, text.as_str().as_bytes())?.steps.pop() {
+    let text = format!(in alloc; "{{\"steps\":[{step}]}}")?;
+    match last_step(alloc, text.as_str())? {
         Some(Scripted::Perform(_, command)) => Ok(command),
         _ => Err(Fail::from("no command")),
     }
 }
 
-fn print(scene: &mut Scene, step: &str, told: &str) -> Result<(), Fail> {
+fn performed(scene: &mut Scene, step: &str) -> Result<String, Fail> {
     let command = command_of(scene.alloc, step)?;
-    let line = performed(scene, &command)?;
-    let wanted = format!(in scene.alloc; "1 {told}\n")?;
-    same(line.as_str(), wanted.as_str())
+    line_of(scene.alloc, &scene.db, &mut scene.tx, &command)
+}
+
+fn print(scene: &mut Scene, step: &str, told: &str) -> Result<(), Fail> {
+    let line = performed(scene, step)?;
+    is_told(scene.alloc, line.as_str(), told)
 }
 
 impl Scene {
@@ -104,45 +121,39 @@ impl Scene {
     }
 
     /// Saves a record, where there is none.
-    fn save(&mut self, new: &Record) -> Result<String, Fail> {
+    fn save(&mut self, new: &Record, told: &str) -> Result<(), Fail> {
         match self.saved(new) {
-            Ok(None) => Ok(String::from_str(self.alloc, "none")?),
-            Err(StoreError::OtherSchema) => Ok(String::from_str(self.alloc, "OtherSchema")?),
+            Ok(None) => same("none", told),
+            Err(StoreError::OtherSchema) => same("OtherSchema", told),
             _ => Err(Fail::from("another answer")),
         }
     }
 
-    /// Makes a store of the type t, which has no index.
-    fn create(&mut self) -> Result<String, Fail> {
-        let schema = schema_asked(self.alloc, REQUEST)?;
+    fn made(&mut self, schema: &Schema) -> Result<Store, StoreError> {
         if !self.prefix.is_key() {
-            return Err(Fail::from("no prefix"));
+            return Err(StoreError::Write(WriteError::KeyOutside));
         }
         let prefix = self.prefix.as_slice();
-        match Store::create(self.alloc, prefix, &mut self.tx, &self.db, &schema) {
-            Ok(_) => Ok(String::from_str(self.alloc, "done")?),
-            Err(_) => Err(Fail::from("no store is made")),
-        }
+        Store::create(self.alloc, prefix, &mut self.tx, &self.db, schema)
     }
 
-    fn listed(&mut self, name: &str) -> Result<Vec<Record>, Fail> {
-        let name = text_of(self.alloc, name)?;
-        let Ok(store) = self.opened() else {
-            return Err(Fail::from("no store"));
-        };
-        match store.records(&mut self.tx, &self.db, &name) {
-            Ok(records) => Ok(records.into_vec()),
-            Err(_) => Err(Fail::from("no records")),
-        }
+    /// Makes a store of the type t, which has no index.
+    fn create(&mut self, told: &str) -> Result<(), Fail> {
+        let schema = schema_asked(self.alloc, REQUEST)?;
+        let _store = self.made(&schema)?;
+        same("done", told)
     }
 
-    /// The cells of the records of the type t.
-    fn records(&mut self) -> Result<String, Fail> {
-        let mut rows = Vec::new(self.alloc);
-        for found in self.listed("t")? {
-            rows.push(found.into_cells())?;
-        }
-        Ok(rows_text(self.alloc, rows.as_slice())?)
+    fn listed(&mut self, name: &Text) -> Result<Found, StoreError> {
+        let store = self.opened()?;
+        store.records(&mut self.tx, &self.db, name)
+    }
+
+    /// The records of the type t have these cells.
+    fn records(&mut self, told: &str) -> Result<(), Fail> {
+        let name = text_of(self.alloc, "t")?;
+        let records = self.listed(&name)?;
+        have_cells(self.alloc, records, told)
     }
 
     fn begin(&mut self, prefix: &str) -> Result<(), Fail> {
@@ -166,15 +177,39 @@ impl Scene {
     }
 }
 
-fn record_asked(alloc: Global, request: &str, cells: &str) -> Result<Record, Fail> {
-    let schema = schema_asked(alloc, request)?;
-    let cells = cells_asked(alloc, cells)?;
-    Ok(Record::new(alloc, &schema, &text_of(alloc, "t")?, cells)?)
+/// The cells of records have this text.
+fn have_cells(alloc: Global, records: Found, told: &str) -> Result<(), Fail> {
+    let mut rows = Vec::new(alloc);
+    for found in records.into_vec() {
+        rows.push(found.into_cells())?;
+    }
+    have_text(alloc, rows.as_slice(), told)
 }
 
-fn written(alloc: Global, request: &CommitRequest, told: &str) -> Result<(), Fail> {
-    let wanted = mutations_of(alloc, told)?;
-    alike(alloc, &request.mutations.as_slice(), &wanted.as_slice())
+/// Rows have this text.
+pub(crate) fn have_text(alloc: Global, rows: &[Cells], told: &str) -> Result<(), Fail> {
+    let found = rows_text(alloc, rows)?;
+    same(found.as_str(), told)
+}
+
+fn record_of(alloc: Global, schema: &Schema, cells: &str) -> Result<Record, Fail> {
+    let name = text_of(alloc, "t")?;
+    Ok(Record::new(alloc, schema, &name, cells_asked(alloc, cells)?)?)
+}
+
+fn record_asked(alloc: Global, request: &str, cells: &str) -> Result<Record, Fail> {
+    let schema = schema_asked(alloc, request)?;
+    record_of(alloc, &schema, cells)
+}
+
+fn save(scene: &mut Scene, request: &str, cells: &str, told: &str) -> Result<(), Fail> {
+    let record = record_asked(scene.alloc, request, cells)?;
+    scene.save(&record, told)
+}
+
+fn renew(alloc: Global, scene: &mut Scene) -> Result<(), Fail> {
+    *scene = begun(alloc)?;
+    Ok(())
 }
 
 fn counted(alloc: Global, request: &CommitRequest, told: &str) -> Result<(), Fail> {
@@ -185,20 +220,16 @@ fn counted(alloc: Global, request: &CommitRequest, told: &str) -> Result<(), Fai
 pub(crate) fn take(alloc: Global, scene: &mut Scene, row: &Row) -> Result<(), Fail> {
     let (step, first, second, told) = row;
     match step {
-        New => *scene = begun(alloc)?,
-        At => scene.begin(first)?,
-        Pair | Set => scene.put(*step, first)?,
-        Perform => print(scene, first, told)?,
-        Create => same(scene.create()?.as_str(), told)?,
-        Save => same(
-            scene.save(&record_asked(alloc, first, second)?)?.as_str(),
-            told,
-        )?,
-        Records => same(scene.records()?.as_str(), told)?,
-        Written => written(alloc, &scene.end(), told)?,
-        Counts => counted(alloc, &scene.end(), told)?,
+        New => renew(alloc, scene),
+        At => scene.begin(first),
+        Pair | Set => scene.put(*step, first),
+        Perform => print(scene, first, told),
+        Create => scene.create(told),
+        Save => save(scene, first, second, told),
+        Records => scene.records(told),
+        Written => are_mutations(alloc, scene.end().mutations.as_slice(), told),
+        Counts => counted(alloc, &scene.end(), told),
     }
-    Ok(())
 }
 
 pub(crate) fn begun(alloc: Global) -> Result<Scene, Fail> {

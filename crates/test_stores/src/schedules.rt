@@ -5,7 +5,7 @@ use script::script_of;
 use std::alloc::Global;
 use std::fmt::Write;
 use std::test::Fail;
-use test_parts::{alike, pairs_of, range_of, same};
+use test_parts::{are_pairs, range_of, same};
 
 /// A store with an index over the column a is made; the record 1 is saved twice and 2 once, whose a is null.
 const THREE_SAVES: &str = r#"{"steps":[
@@ -194,11 +194,15 @@ fn listed(alloc: Global, transcript: &Transcript) -> Result<String, Fail> {
     Ok(told)
 }
 
+fn listed_of(alloc: Global, script: &str) -> Result<String, Fail> {
+    let transcript = run(alloc, script)?;
+    listed(alloc, &transcript)
+}
+
 #[test]
 fn what_is_committed_is_listed(rt: HostRuntime) -> Result<(), Fail> {
     for (script, told) in &LISTED {
-        let transcript = run(rt.alloc(), script)?;
-        same(listed(rt.alloc(), &transcript)?.as_str(), told)?;
+        same(listed_of(rt.alloc(), script)?.as_str(), told)?;
     }
     Ok(())
 }
@@ -207,14 +211,18 @@ fn has_entries(alloc: Global, cluster: &Cluster, row: &Row) -> Result<(), Fail> 
     let (_, range, version, limit, reverse, told) = row;
     let range = range_of(alloc, range)?;
     let pairs = cluster.read(&range, *version, *limit, *reverse)?;
-    alike(alloc, &pairs, &pairs_of(alloc, told)?)
+    are_pairs(alloc, &pairs, told)
+}
+
+fn leaves_entries(alloc: Global, row: &Row) -> Result<(), Fail> {
+    let transcript = run(alloc, row.0)?;
+    has_entries(alloc, &transcript.cluster, row)
 }
 
 #[test]
 fn entries_stand_in_the_cluster(rt: HostRuntime) -> Result<(), Fail> {
     for row in &ENTRIES {
-        let transcript = run(rt.alloc(), row.0)?;
-        has_entries(rt.alloc(), &transcript.cluster, row)?;
+        leaves_entries(rt.alloc(), row)?;
     }
     Ok(())
 }

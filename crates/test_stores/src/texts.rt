@@ -9,6 +9,7 @@ use planner::PlanError;
 use query::QueryError;
 use record_store::StoreError;
 use std::alloc::{AllocError, Global};
+use std::fmt::Display;
 use std::test::Fail;
 use test_parts::same;
 use tuple_codec::{StripError, UnpackError, UnpackErrorKind, UnpackFailure};
@@ -262,41 +263,46 @@ fn damaged_key(alloc: Global) -> Result<Bytes, AllocError> {
     Ok(Bytes::new(Vec::from_slice(alloc, &[0x15, 0x01, 0xff])?))
 }
 
+/// The text of an error, which is let go.
+fn text<E: Display + Drop>(alloc: Global, error: E) -> Result<String, AllocError> {
+    error.to_string(alloc)
+}
+
 fn printed(alloc: Global, error: AnyError) -> Result<String, AllocError> {
     match error {
-        AnyError::Write(error) => error.to_string(alloc),
-        AnyError::Config(error) => error.to_string(alloc),
-        AnyError::Submit(error) => error.to_string(alloc),
-        AnyError::Read(error) => error.to_string(alloc),
-        AnyError::Held(error) => HoldError::Submit(error).to_string(alloc),
-        AnyError::HeldUnknown => HoldError::Unknown.to_string(alloc),
-        AnyError::HeldBehind => HoldError::Behind(Reported::NothingToDo).to_string(alloc),
-        AnyError::Schema(refusal) => refusal.to_string(alloc),
-        AnyError::Metadata(refusal) => MetadataError::Refused(refusal).to_string(alloc),
-        AnyError::MetadataMemory => MetadataError::Memory.to_string(alloc),
-        AnyError::StoreMemory => StoreError::Memory.to_string(alloc),
-        AnyError::StoreRead(error) => StoreError::Read(error).to_string(alloc),
-        AnyError::StoreWrite(error) => StoreError::Write(error).to_string(alloc),
-        AnyError::StoreCorrupt => StoreError::Corrupt(damaged_key(alloc)?).to_string(alloc),
-        AnyError::StoreRefused(refusal) => StoreError::Refused(refusal).to_string(alloc),
-        AnyError::NoStore => StoreError::NoStore.to_string(alloc),
-        AnyError::AlreadyThere => StoreError::AlreadyThere.to_string(alloc),
-        AnyError::OtherSchema => StoreError::OtherSchema.to_string(alloc),
-        AnyError::NotAggregate => StoreError::NotAggregate.to_string(alloc),
-        AnyError::NotReadable => StoreError::NotReadable.to_string(alloc),
-        AnyError::WrongState => StoreError::WrongState.to_string(alloc),
-        AnyError::NotBuilt => StoreError::NotBuilt.to_string(alloc),
-        AnyError::ExecSchema => ExecError::OtherSchema.to_string(alloc),
-        AnyError::ExecIndex => ExecError::IndexNotReadable.to_string(alloc),
-        AnyError::ExecRead(error) => ExecError::Read(error).to_string(alloc),
-        AnyError::ExecCorrupt => ExecError::Corrupt(damaged_key(alloc)?).to_string(alloc),
-        AnyError::ExecMemory => ExecError::Memory.to_string(alloc),
-        AnyError::Unpack(error) => error.to_string(alloc),
-        AnyError::Failure(error) => error.to_string(alloc),
-        AnyError::Strip(error) => error.to_string(alloc),
-        AnyError::Query(error) => error.to_string(alloc),
-        AnyError::Plan(error) => error.to_string(alloc),
-        AnyError::Explain(error) => error.to_string(alloc),
+        AnyError::Write(error) => text(alloc, error),
+        AnyError::Config(error) => text(alloc, error),
+        AnyError::Submit(error) => text(alloc, error),
+        AnyError::Read(error) => text(alloc, error),
+        AnyError::Held(error) => text(alloc, HoldError::Submit(error)),
+        AnyError::HeldUnknown => text(alloc, HoldError::Unknown),
+        AnyError::HeldBehind => text(alloc, HoldError::Behind(Reported::NothingToDo)),
+        AnyError::Schema(refusal) => text(alloc, refusal),
+        AnyError::Metadata(refusal) => text(alloc, MetadataError::Refused(refusal)),
+        AnyError::MetadataMemory => text(alloc, MetadataError::Memory),
+        AnyError::StoreMemory => text(alloc, StoreError::Memory),
+        AnyError::StoreRead(error) => text(alloc, StoreError::Read(error)),
+        AnyError::StoreWrite(error) => text(alloc, StoreError::Write(error)),
+        AnyError::StoreCorrupt => text(alloc, StoreError::Corrupt(damaged_key(alloc)?)),
+        AnyError::StoreRefused(refusal) => text(alloc, StoreError::Refused(refusal)),
+        AnyError::NoStore => text(alloc, StoreError::NoStore),
+        AnyError::AlreadyThere => text(alloc, StoreError::AlreadyThere),
+        AnyError::OtherSchema => text(alloc, StoreError::OtherSchema),
+        AnyError::NotAggregate => text(alloc, StoreError::NotAggregate),
+        AnyError::NotReadable => text(alloc, StoreError::NotReadable),
+        AnyError::WrongState => text(alloc, StoreError::WrongState),
+        AnyError::NotBuilt => text(alloc, StoreError::NotBuilt),
+        AnyError::ExecSchema => text(alloc, ExecError::OtherSchema),
+        AnyError::ExecIndex => text(alloc, ExecError::IndexNotReadable),
+        AnyError::ExecRead(error) => text(alloc, ExecError::Read(error)),
+        AnyError::ExecCorrupt => text(alloc, ExecError::Corrupt(damaged_key(alloc)?)),
+        AnyError::ExecMemory => text(alloc, ExecError::Memory),
+        AnyError::Unpack(error) => text(alloc, error),
+        AnyError::Failure(error) => text(alloc, error),
+        AnyError::Strip(error) => text(alloc, error),
+        AnyError::Query(error) => text(alloc, error),
+        AnyError::Plan(error) => text(alloc, error),
+        AnyError::Explain(error) => text(alloc, error),
     }
 }
 

@@ -1,5 +1,6 @@
 // One client that commits again and again. Run as a test.
-use crate::transactions::{alone, two_clients};
+use crate::in_turn::parted;
+use crate::transactions::{alone, are_told, two_clients};
 use runtime::{Client, End};
 use std::alloc::Global;
 use std::sync::Wait;
@@ -27,16 +28,28 @@ fn last_of_many<E: End, R: Wait>(rt: &R, alloc: Global, client: &mut Client<E>) 
     last
 }
 
+/// That, and what another client finds then.
+fn told<E: End, R: Wait>(
+    rt: &R,
+    alloc: Global,
+    one: &mut Client<E>,
+    other: &mut Client<E>,
+) -> Option<String> {
+    alone(rt, alloc, one, MADE).lines?;
+    let last = last_of_many(rt, alloc, one);
+    parted(alloc, last, alone(rt, alloc, other, LOADED).lines)
+}
+
+/// The same of two clients of a new store.
+fn again<R: Wait>(rt: &R, alloc: Global) -> Option<String> {
+    let (mut one, mut other) = two_clients(rt, alloc)?;
+    told(rt, alloc, &mut one, &mut other)
+}
+
 #[test]
 fn a_client_commits_again_and_again(rt: HostRuntime) -> Result<(), Fail> {
-    let (mut one, mut other) = two_clients(&rt, rt.alloc()).ok_or("there are no clients")?;
-    assert!(&rt; alone(&rt, rt.alloc(), &mut one, MADE).lines.is_some());
-    let last = last_of_many(&rt, rt.alloc(), &mut one);
-    assert_eq!(&rt;
-        last.as_deref(),
-        Some("0 saved over [1,2,0]\ncommitted 2001")
-    );
-    let seen = alone(&rt, rt.alloc(), &mut other, LOADED).lines;
-    assert_eq!(&rt; seen.as_deref(), Some("0 found [1,2,0]\nread only"));
-    Ok(())
+    are_told(
+        again(&rt, rt.alloc()),
+        "0 saved over [1,2,0]\ncommitted 2001; 0 found [1,2,0]\nread only",
+    )
 }

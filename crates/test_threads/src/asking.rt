@@ -1,5 +1,5 @@
 // Clients that ask what became of their submissions. Run as tests.
-use crate::transactions::{alone, over, two_clients};
+use crate::transactions::{alone, are_told, over, two_clients};
 use cluster_core::Config;
 use runtime::{
     Body, Client, CommandError, End, KEPT_OUTCOMES, RunError, SubmissionStatus, Txn, Waits, begin,
@@ -90,13 +90,15 @@ fn ask_beside<E: End, R: Wait>(
     Some(lines)
 }
 
+/// The same of two clients of a new store.
+fn told_beside<R: Wait>(rt: &R, alloc: Global) -> Option<String> {
+    let (mut one, mut other) = two_clients(rt, alloc)?;
+    ask_beside(rt, alloc, &mut one, &mut other)
+}
+
 #[test]
 fn a_client_asks_for_its_submissions(rt: HostRuntime) -> Result<(), Fail> {
-    let alloc = rt.alloc();
-    let (mut one, mut other) = two_clients(&rt, alloc).ok_or("there are no clients")?;
-    let lines = ask_beside(&rt, alloc, &mut one, &mut other);
-    assert_eq!(&rt; lines.as_deref(), Some(BESIDE));
-    Ok(())
+    are_told(told_beside(&rt, rt.alloc()), BESIDE)
 }
 
 /// Saves a record so many times, once the store is made, each in a transaction of its own: whether
@@ -118,16 +120,18 @@ fn ask_late<E: End, R: Wait>(rt: &R, alloc: Global, client: &mut Client<E>) -> O
     }
 }
 
+/// The same of a client of a new store.
+fn told_late<R: Wait>(rt: &R, alloc: Global) -> Option<String> {
+    let (mut one, _other) = two_clients(rt, alloc)?;
+    ask_late(rt, alloc, &mut one)
+}
+
 #[test]
 fn an_old_outcome_is_forgotten(rt: HostRuntime) -> Result<(), Fail> {
-    let alloc = rt.alloc();
-    let (mut one, _other) = two_clients(&rt, alloc).ok_or("there are no clients")?;
-    let line = ask_late(&rt, alloc, &mut one);
-    assert_eq!(&rt;
-        line.as_deref(),
-        Some("129: forgotten; committed 2; committed 129;")
-    );
-    Ok(())
+    are_told(
+        told_late(&rt, rt.alloc()),
+        "129: forgotten; committed 2; committed 129;",
+    )
 }
 
 /// Performs a command.
@@ -194,8 +198,8 @@ fn told_at_the_end<R: Wait>(rt: &R, alloc: Global) -> Option<String> {
 
 #[test]
 fn there_is_a_last_version(rt: HostRuntime) -> Result<(), Fail> {
-    let lines = told_at_the_end(&rt, rt.alloc());
-    let wanted = "0 ok\nthere is no version or number left\n0: not submitted;\n";
-    assert_eq!(&rt; lines.as_deref(), Some(wanted));
-    Ok(())
+    are_told(
+        told_at_the_end(&rt, rt.alloc()),
+        "0 ok\nthere is no version or number left\n0: not submitted;\n",
+    )
 }

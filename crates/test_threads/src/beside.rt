@@ -1,5 +1,6 @@
 // A transaction on one thread beside a commit on another. Run as tests.
-use crate::transactions::{alone, over, two_clients};
+use crate::in_turn::parted;
+use crate::transactions::{alone, are_told, joined, over, two_clients};
 use runtime::{Built, Client, End, Gate, GatePoint, begin, build_worker};
 use std::alloc::Global;
 use std::sync::Wait;
@@ -79,15 +80,6 @@ fn early<E: End, R: Wait>(
     told.lines
 }
 
-/// What the two clients of a new store are told.
-#[derive(Drop)]
-struct Scene<T: Drop> {
-    made: Option<String>,
-    one: Option<T>,
-    other: Option<String>,
-    after: Option<String>,
-}
-
 /// A transaction on one thread, with a commit of another client in the middle of it.
 fn late_beside_early<E: End + Send, R: Threads + Wait + Sync>(
     rt: &R,
@@ -104,34 +96,22 @@ fn late_beside_early<E: End + Send, R: Threads + Wait + Sync>(
     )
 }
 
-fn transactions<R: Threads + Wait + Sync>(rt: &R, alloc: Global) -> Option<Scene<String>> {
+/// What the two clients of a new store are told: where it is made, of the early commit, and of the
+/// late one.
+fn transactions<R: Threads + Wait + Sync>(rt: &R, alloc: Global) -> Option<String> {
     let (mut one, mut other) = two_clients(rt, alloc)?;
     let made = alone(rt, alloc, &mut one, MADE).lines;
     let (late, early) = late_beside_early(rt, alloc, &mut one, &mut other);
-    Some(Scene {
-        made,
-        one: late,
-        other: early,
-        after: None,
-    })
+    parted(alloc, parted(alloc, made, early), late)
 }
 
 #[test]
 fn a_transaction_beside_a_commit(rt: HostRuntime) -> Result<(), Fail> {
-    let scene = transactions(&rt, rt.alloc()).ok_or("there are no clients")?;
-    assert_eq!(&rt;
-        scene.made.as_deref(),
-        Some("0 ok\n1 saved new\ncommitted 1")
-    );
-    assert_eq!(&rt;
-        scene.other.as_deref(),
-        Some("0 saved over [1,0,0]\ncommitted 2")
-    );
-    assert_eq!(&rt;
-        scene.one.as_deref(),
-        Some("0 found [1,0,0]\n1 saved over [1,0,0]\nconflict 2")
-    );
-    Ok(())
+    are_told(
+        transactions(&rt, rt.alloc()),
+        "0 ok\n1 saved new\ncommitted 1; 0 saved over [1,0,0]\ncommitted 2; \
+         0 found [1,0,0]\n1 saved over [1,0,0]\nconflict 2",
+    )
 }
 
 /// Holds a builder before each of its commits until the other thread has written.
@@ -180,31 +160,25 @@ fn built_beside_early<E: End + Send, R: Threads + Wait + Sync>(
     )
 }
 
-fn builder<R: Threads + Wait + Sync>(rt: &R, alloc: Global) -> Option<Scene<Built>> {
+/// What is built, in words.
+pub(crate) fn built_line(alloc: Global, built: Option<Built>) -> Option<String> {
+    let Built { records, steps } = built?;
+    format!(in alloc; "built {records} in {steps}\n").ok()
+}
+
+/// What was built, what the commit was told, and the total then, once the store is made.
+fn builder<R: Threads + Wait + Sync>(rt: &R, alloc: Global) -> Option<String> {
     let (mut one, mut other) = two_clients(rt, alloc)?;
-    let made = alone(rt, alloc, &mut one, UNBUILT).lines;
+    alone(rt, alloc, &mut one, UNBUILT).lines?;
     let (built, saved) = built_beside_early(rt, alloc, &mut one, &mut other);
     let total = alone(rt, alloc, &mut other, TOTAL).lines;
-    Some(Scene {
-        made,
-        one: built,
-        other: saved,
-        after: total,
-    })
+    parted(alloc, joined(built_line(alloc, built), saved), total)
 }
 
 #[test]
 fn a_builder_beside_a_commit(rt: HostRuntime) -> Result<(), Fail> {
-    let scene = builder(&rt, rt.alloc()).ok_or("there are no clients")?;
-    assert!(&rt; scene.made.is_some());
-    assert_eq!(&rt; scene.other.as_deref(), Some("0 saved new\ncommitted 2"));
-    assert_eq!(&rt;
-        scene.one,
-        Some(Built {
-            records: 3,
-            steps: 1
-        })
-    );
-    assert_eq!(&rt; scene.after.as_deref(), Some("0 total 3\nread only"));
-    Ok(())
+    are_told(
+        builder(&rt, rt.alloc()),
+        "built 3 in 1\n0 saved new\ncommitted 2; 0 total 3\nread only",
+    )
 }

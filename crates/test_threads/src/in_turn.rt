@@ -2,7 +2,7 @@
 ghost use Rattle.std.specs.Prelude.{◌≡◌, IfSome};
 ghost use Rattle.test_threads.specs.Turns.{AreOf};
 
-use crate::transactions::{Told, alone, joined};
+use crate::transactions::{Told, alone, are_told, joined};
 use cluster_core::Config;
 use runtime::{Client, End, Seen, Waits, open};
 use std::alloc::Global;
@@ -140,19 +140,13 @@ fn in_turn<R: Wait>(rt: &R, alloc: Global, scripts: &[&str; 4]) -> Option<String
 
 #[test]
 fn a_client_learns_of_a_commit(rt: HostRuntime) -> Result<(), Fail> {
-    let told = in_turn(&rt, rt.alloc(), &TAUGHT);
-    assert_eq!(&rt; told.as_deref(), Some(LEARNT));
-    Ok(())
+    are_told(in_turn(&rt, rt.alloc(), &TAUGHT), LEARNT)
 }
 
 #[test]
 fn clients_commit_in_turn(rt: HostRuntime) -> Result<(), Fail> {
-    let told = in_turn(&rt, rt.alloc(), &SAVED);
-    assert_eq!(&rt;
-        told.as_deref(),
-        Some(
-            "; 0 ok\ncommitted 1; 0 saved new\ncommitted 2; 0 saved new\ncommitted 3; 0 saved new\ncommitted 4"
-        )
-    );
-    Ok(())
+    are_told(
+        in_turn(&rt, rt.alloc(), &SAVED),
+        "; 0 ok\ncommitted 1; 0 saved new\ncommitted 2; 0 saved new\ncommitted 3; 0 saved new\ncommitted 4",
+    )
 }

@@ -1,10 +1,12 @@
 // A program that looks at none of its answers, and saves into a type that isn't there. Run as a
 // test.
-use crate::transactions::{alone, two_clients};
+use crate::in_turn::parted;
+use crate::transactions::{alone, are_told, two_clients};
 use metadata::{Cell, Cells};
-use runtime::{Body, CommandError, End, RunError, Txn};
+use runtime::{Body, Client, CommandError, End, RunError, Txn};
 use schedule::Refusal;
 use std::alloc::Global;
+use std::sync::Wait;
 use std::test::Fail;
 use tuple_codec::Text;
 use txn::Retry;
@@ -49,29 +51,51 @@ fn is_of_no_type(error: &RunError) -> bool {
     )
 }
 
+/// How a client's run of that program ends, which saves into this type.
+fn ended<E: End, R: Wait>(
+    rt: &R,
+    alloc: Global,
+    client: &mut Client<E>,
+    type_name: &str,
+) -> Result<(), RunError> {
+    let mut body = SaveAll { alloc, type_name };
+    client.run(rt, Retry { limit: 10 }, false, &mut body)?;
+    Ok(())
+}
+
+fn is_refused<E: End, R: Wait>(rt: &R, alloc: Global, client: &mut Client<E>) -> bool {
+    ended(rt, alloc, client, "books").is_err_and(|error| is_of_no_type(&error))
+}
+
+/// What is told where the store is made, and what another client finds after a run that is refused,
+/// and after one that isn't.
+fn told<E: End, R: Wait>(
+    rt: &R,
+    alloc: Global,
+    one: &mut Client<E>,
+    other: &mut Client<E>,
+) -> Option<String> {
+    let made = alone(rt, alloc, one, MADE).lines;
+    if !is_refused(rt, alloc, one) {
+        return None;
+    }
+    let told = parted(alloc, made, alone(rt, alloc, other, LOADED).lines);
+    if ended(rt, alloc, one, "book").is_err() {
+        return None;
+    }
+    parted(alloc, told, alone(rt, alloc, other, LOADED).lines)
+}
+
+/// The same of two clients of a new store.
+fn told_of_two<R: Wait>(rt: &R, alloc: Global) -> Option<String> {
+    let (mut one, mut other) = two_clients(rt, alloc)?;
+    told(rt, alloc, &mut one, &mut other)
+}
+
 #[test]
 fn a_program_ends_with_the_first_refusal(rt: HostRuntime) -> Result<(), Fail> {
-    let (mut one, mut other) = two_clients(&rt, rt.alloc()).ok_or("there are no clients")?;
-    let made = alone(&rt, rt.alloc(), &mut one, MADE).lines;
-    assert_eq!(&rt; made.as_deref(), Some("0 ok\ncommitted 1"));
-    let retry = Retry { limit: 10 };
-    let mut wrong = SaveAll {
-        alloc: rt.alloc(),
-        type_name: "books",
-    };
-    let ended = one.run(&rt, retry, false, &mut wrong);
-    assert!(&rt; ended.is_err_and(|error| is_of_no_type(&error)));
-    let none = alone(&rt, rt.alloc(), &mut other, LOADED).lines;
-    assert_eq!(&rt; none.as_deref(), Some("0 none\n1 none\nread only"));
-    let mut right = SaveAll {
-        alloc: rt.alloc(),
-        type_name: "book",
-    };
-    assert!(&rt; one.run(&rt, retry, false, &mut right).is_ok());
-    let all = alone(&rt, rt.alloc(), &mut other, LOADED).lines;
-    assert_eq!(&rt;
-        all.as_deref(),
-        Some("0 found [0]\n1 found [19]\nread only")
-    );
-    Ok(())
+    are_told(
+        told_of_two(&rt, rt.alloc()),
+        "0 ok\ncommitted 1; 0 none\n1 none\nread only; 0 found [0]\n1 found [19]\nread only",
+    )
 }

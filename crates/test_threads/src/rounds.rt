@@ -3,7 +3,7 @@
 ghost use Rattle.std.specs.Prelude.{◌≡◌, IfSome};
 
 use crate::in_turn::{parted, taught};
-use crate::transactions::{Told, two_clients};
+use crate::transactions::{Told, are_told, two_clients};
 use runtime::{Client, End};
 use std::alloc::Global;
 use std::sync::Wait;
@@ -94,14 +94,10 @@ fn told_in_rounds<R: Wait>(rt: &R, alloc: Global) -> Option<String> {
 
 #[test]
 fn clients_learn_between_their_commits(rt: HostRuntime) -> Result<(), Fail> {
-    let told = told_in_rounds(&rt, rt.alloc());
-    assert_eq!(&rt;
-        told.as_deref(),
-        Some(
-            "; 0 ok\ncommitted 1; 0 saved new\ncommitted 2; 0 saved over [1,0]\ncommitted 3; \
-             0 found [1,1]\n1 saved over [1,1]\ncommitted 4; 0 saved over [1,2]\ncommitted 5; \
-             0 found [1,3]\nread only"
-        )
-    );
-    Ok(())
+    are_told(
+        told_in_rounds(&rt, rt.alloc()),
+        "; 0 ok\ncommitted 1; 0 saved new\ncommitted 2; 0 saved over [1,0]\ncommitted 3; \
+         0 found [1,1]\n1 saved over [1,1]\ncommitted 4; 0 saved over [1,2]\ncommitted 5; \
+         0 found [1,3]\nread only",
+    )
 }

@@ -1,5 +1,6 @@
 // Clients in two stores of one database, whose types and indexes have the same names. Run as a test.
-use crate::transactions::{joined, over, two_clients};
+use crate::beside::built_line;
+use crate::transactions::{are_told, joined, over, two_clients};
 use metadata::{Cell, Cells};
 use record_store::StoreNumber;
 use runtime::{
@@ -36,7 +37,7 @@ const UNBUILT: &str = r#"{"steps":[
 
 const TOTAL: &str = r#"{"steps":[["aggregate",0,"cnt",[]]]}"#;
 
-/// What is told of these, one after another.
+/// What is told of these, one after another, of the worker, and of the totals then.
 const TOLD: &str = "0 ok\n1 saved new\ncommitted 1
 0 found [1,2,2]
 0 refused NoStore
@@ -44,6 +45,9 @@ const TOLD: &str = "0 ok\n1 saved new\ncommitted 1
 0 found [1,\"x\"]
 0 found [1,2,2]
 0 disabled\n1 ok\ncommitted 3
+built 1 in 1
+0 total 2\nread only
+0 total 1\nread only
 ";
 
 /// What is asked in a store.
@@ -70,8 +74,6 @@ static ASKED: [Asked; 7] = [
 
 /// The totals of both, once the index of store 2 is built.
 static BUILT: [Asked; 2] = [(1, Ask::Commands(TOTAL)), (2, Ask::Commands(TOTAL))];
-
-const TOTALS: &str = "0 total 2\nread only\n0 total 1\nread only\n";
 
 /// Loads the record 1.
 #[derive(Drop)]
@@ -198,23 +200,28 @@ fn is_refused_there<E: End, R: Wait>(rt: &R, alloc: Global, client: &mut Client<
     }
 }
 
+/// What a client is told of all of it. The worker in store 1 is refused, that in store 2 builds.
+fn told_of_both<E: End, R: Wait>(
+    rt: &R,
+    alloc: Global,
+    client: &mut Client<E>,
+    second: StoreNumber,
+) -> Option<String> {
+    let told = told_each(rt, alloc, client, &ASKED);
+    if !is_refused_there(rt, alloc, client) {
+        return None;
+    }
+    let built = built_line(alloc, built_in(rt, alloc, client, second));
+    joined(joined(told, built), told_each(rt, alloc, client, &BUILT))
+}
+
+/// The same of a client of a new database.
+fn in_two_stores<R: Wait>(rt: &R, alloc: Global) -> Option<String> {
+    let (mut one, _other) = two_clients(rt, alloc)?;
+    told_of_both(rt, alloc, &mut one, StoreNumber::new(2)?)
+}
+
 #[test]
 fn two_stores_have_the_same_names(rt: HostRuntime) -> Result<(), Fail> {
-    let alloc = rt.alloc();
-    let (mut one, _other) = two_clients(&rt, alloc).ok_or("there are no clients")?;
-    let second = StoreNumber::new(2).ok_or("there is no store 2")?;
-    let told = told_each(&rt, alloc, &mut one, &ASKED);
-    assert_eq!(&rt; told.as_deref(), Some(TOLD));
-    assert!(&rt; is_refused_there(&rt, alloc, &mut one));
-    let built = built_in(&rt, alloc, &mut one, second);
-    assert_eq!(&rt;
-        built,
-        Some(Built {
-            records: 1,
-            steps: 1
-        })
-    );
-    let totals = told_each(&rt, alloc, &mut one, &BUILT);
-    assert_eq!(&rt; totals.as_deref(), Some(TOTALS));
-    Ok(())
+    are_told(in_two_stores(&rt, rt.alloc()), TOLD)
 }

@@ -1,5 +1,4 @@
-// Transactions written as scripts, and what is told of them in lines. Called by `beside` and
-// `in_turn`.
+// Transactions written as scripts, and what is told of them in lines. Called by the tests.
 ghost use Rattle.std.specs.Prelude.{◌≡◌, IfSome, None, Ok, Some};
 ghost use Rattle.runtime.specs.Runs.{Continues};
 ghost use Rattle.test_threads.specs.Turns.{AreOf};
@@ -11,6 +10,7 @@ use schedule::{Command, Reply, SharedPlan, Step};
 use script::{make_line, script_of};
 use std::alloc::Global;
 use std::sync::Wait;
+use std::test::Fail;
 
 /// The lines that tell a transaction, and what another client may learn of it.
 #[derive(Drop)]
@@ -46,6 +46,15 @@ pub(crate) fn two_clients<R: Wait>(
         Ok(clients) => two_of(clients),
         Err(_) => None,
     }
+}
+
+/// Fails where other lines are told, or none.
+pub(crate) fn are_told(found: Option<String>, wanted: &str) -> Result<(), Fail> {
+    let found = found.ok_or("nothing is told")?;
+    if found.as_str() == wanted {
+        return Ok(());
+    }
+    Err(Fail::new(format_args!("found {}, wanted {wanted}", found.as_str())))
 }
 
 /// The command of a step; `execute` takes this plan.
