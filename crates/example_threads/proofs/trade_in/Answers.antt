@@ -3,5 +3,5 @@ use Rattle.std.proofs.Crossing.{crosses}
 use Rattle.record_layer.proofs.Folders.{folder_logs}
 use Rattle.example_threads.proofs.trade_in.Goals as goal
 
-pub trade_of-requires-send-E : goal.trade_of-requires-send-E
-trade_of-requires-send-E g c κs within = search (folder_logs, sendable, crosses) depth 20
+pub demonstrate-requires-send-E : goal.demonstrate-requires-send-E
+demonstrate-requires-send-E g c κs within = search (folder_logs, sendable, crosses) depth 20
