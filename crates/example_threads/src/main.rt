@@ -9,6 +9,7 @@ mod clerks;
 use clerks::{TITLE, left, open_shop, sell_beside};
 use record_layer::{Client, Config, End, Error, Waits, open, open_at};
 use std::alloc::Global;
+use std::fmt::Display;
 use std::process::ExitCode;
 use std::sync::Wait;
 use std::thread::Threads;
@@ -98,14 +99,17 @@ fn print(rt: &HostRuntime, lines: &[String]) -> io::Result<ExitCode> {
     Ok(ExitCode::SUCCESS)
 }
 
+/// Prints why there are none.
+fn refuse<T: Display>(rt: &HostRuntime, error: &T) -> io::Result<ExitCode> {
+    rt.eprintln(error)?;
+    Ok(ExitCode::FAILURE)
+}
+
 /// Prints the lines that tell a day, or why there are none.
 fn tell(rt: &HostRuntime, told: Result<Vec<String>, Error>) -> io::Result<ExitCode> {
     match told {
         Ok(lines) => print(rt, &lines),
-        Err(error) => {
-            rt.eprintln(error)?;
-            Ok(ExitCode::FAILURE)
-        }
+        Err(error) => refuse(rt, &error),
     }
 }
 
@@ -117,10 +121,7 @@ fn trade_in(rt: &HostRuntime, folder: &str) -> io::Result<ExitCode> {
             let mut clients = clients;
             tell(rt, demonstrate(rt, alloc, clients.as_mut_slice()))
         }
-        Err(error) => {
-            rt.eprintln(error)?;
-            Ok(ExitCode::FAILURE)
-        }
+        Err(error) => refuse(rt, &error),
     }
 }
 
