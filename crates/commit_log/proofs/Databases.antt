@@ -12,7 +12,7 @@ use Rattle.durable.specs.Opening.{IsNotOpened}
 use Rattle.durable.specs.declared.error.OpenError.{OpenError as LogError}
 use Rattle.journal.specs.Device.{LeavesOnly}
 use Rattle.journal.specs.Recovery.{IsAsBefore}
-use Rattle.replay.specs.Continuing.{config_after, from_version}
+use Rattle.replay.specs.Continuing.{from_version}
 use Rattle.replay.specs.Replaying.{Image, IsLogged}
 use Rattle.runtime.specs.Clients.{Knowledge, fresh_clients}
 use Rattle.runtime.specs.History.{Name}

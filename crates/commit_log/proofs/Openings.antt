@@ -4,7 +4,6 @@ use Rattle.std.proofs.lemmas.List.{map-append, take_more}
 use Rattle.command_log.specs.Answers.{IsWrittenAs}
 use Rattle.command_log.specs.declared.entry.Entry.{Entry}
 use Rattle.durable.specs.Keeping.{HasLogOf, HasOnDisk, no_base}
-use Rattle.durable.specs.Opening.{IsNotOpened}
 use Rattle.durable.proofs.Openings.{not_replayed}
 use Rattle.journal.specs.Block.{StandsFor}
 use Rattle.journal.specs.Device.{Only}

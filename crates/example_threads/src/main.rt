@@ -9,7 +9,7 @@ mod clerks;
 use clerks::{TITLE, left, open_shop, sell_beside};
 use record_layer::{Client, Config, End, Error, Waits, open, open_at};
 use std::alloc::Global;
-use std::fs::{File, Files};
+use std::fmt::Display;
 use std::process::ExitCode;
 use std::sync::Wait;
 use std::thread::Threads;
@@ -59,30 +59,6 @@ fn trade_of<E: End + Send, R: Threads + Wait + Sync>(
     Ok(Some(trade(rt, alloc, one, other)?))
 }
 
-/// Has the first two clients of a database trade.
-fn first_trade<E: End + Send, R: Threads + Wait + Sync>(
-    rt: &R,
-    alloc: Global,
-    clients: Vec<Client<E>>,
-) -> Result<Option<Day>, Error> {
-    let mut clients = clients;
-    trade_of(rt, alloc, clients.as_mut_slice())
-}
-
-/// Opens the database in this folder, or without one a new one in memory, and has its clients
-/// trade.
-fn open_and_trade<R: Threads + Wait + Files<File = File> + Sync>(
-    rt: &R,
-    alloc: Global,
-    folder: Option<&str>,
-) -> Result<Option<Day>, Error> {
-    let config = Config::single(alloc);
-    match folder {
-        Some(folder) => first_trade(rt, alloc, open_at(rt, alloc, folder, config)?),
-        None => first_trade(rt, alloc, open(rt, alloc, Waits { rt }, &config)?),
-    }
-}
-
 /// The lines that tell a day.
 fn lines(alloc: Global, day: &Day) -> Result<Vec<String>, Error> {
     let Day {
@@ -97,30 +73,62 @@ fn lines(alloc: Global, day: &Day) -> Result<Vec<String>, Error> {
     Ok(lines)
 }
 
-/// Does all of it, and answers the lines that tell it.
-fn demonstrate<R: Threads + Wait + Files<File = File> + Sync>(
+/// Has the clients of a database trade, and answers the lines that tell it.
+fn demonstrate<E: End + Send, R: Threads + Wait + Sync>(
     rt: &R,
     alloc: Global,
-    folder: Option<&str>,
+    clients: &mut [Client<E>],
 ) -> Result<Vec<String>, Error> {
-    match open_and_trade(rt, alloc, folder)? {
+    match trade_of(rt, alloc, clients)? {
         Some(day) => lines(alloc, &day),
         None => Ok(vec![in alloc; String::from_str(alloc, "too few clients")?]?),
     }
 }
 
+/// Has the clients of a new database in memory trade.
+fn trade_anew<R: Threads + Wait + Sync>(rt: &R, alloc: Global) -> Result<Vec<String>, Error> {
+    let mut clients = open(rt, alloc, Waits { rt }, &Config::single(alloc))?;
+    demonstrate(rt, alloc, clients.as_mut_slice())
+}
+
+/// Prints lines.
+fn print(rt: &HostRuntime, lines: &[String]) -> io::Result<ExitCode> {
+    for line in lines {
+        rt.println(line.as_str())?;
+    }
+    Ok(ExitCode::SUCCESS)
+}
+
+/// Prints why there are none.
+fn refuse<T: Display>(rt: &HostRuntime, error: &T) -> io::Result<ExitCode> {
+    rt.eprintln(error)?;
+    Ok(ExitCode::FAILURE)
+}
+
+/// Prints the lines that tell a day, or why there are none.
+fn tell(rt: &HostRuntime, told: Result<Vec<String>, Error>) -> io::Result<ExitCode> {
+    match told {
+        Ok(lines) => print(rt, &lines),
+        Err(error) => refuse(rt, &error),
+    }
+}
+
+/// Opens the database in this folder, and has its clients trade there.
+fn trade_in(rt: &HostRuntime, folder: &str) -> io::Result<ExitCode> {
+    let alloc = rt.alloc();
+    match open_at(rt, alloc, folder, Config::single(alloc)) {
+        Ok(clients) => {
+            let mut clients = clients;
+            tell(rt, demonstrate(rt, alloc, clients.as_mut_slice()))
+        }
+        Err(error) => refuse(rt, &error),
+    }
+}
+
 fn main(rt: HostRuntime) -> io::Result<ExitCode> {
     let words: Vec<String> = env::args(&rt)?.collect(rt.alloc())?;
-    match demonstrate(&rt, rt.alloc(), words.get(1).map(|it| it.as_str())) {
-        Ok(lines) => {
-            for line in lines {
-                rt.println(line)?;
-            }
-            Ok(ExitCode::SUCCESS)
-        }
-        Err(error) => {
-            rt.eprintln(error)?;
-            Ok(ExitCode::FAILURE)
-        }
+    match words.get(1) {
+        Some(folder) => trade_in(&rt, folder.as_str()),
+        None => tell(&rt, trade_anew(&rt, rt.alloc())),
     }
 }

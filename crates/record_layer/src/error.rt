@@ -3,7 +3,6 @@ ghost use Rattle.std.specs.Prelude.{◌≡◌};
 
 use crate::database::NotCommitted;
 use crate::not_done::NotDone;
-use crate::opening::OpenAtError;
 use cluster_core::ConfigError;
 use metadata::MetadataError;
 use plan_exec::ExecError;
@@ -42,9 +41,6 @@ pub enum Error {
     /// A running database isn't opened.
     #[error("{0}")]
     Open(#[from] OpenError),
-    /// The running database in a folder isn't opened.
-    #[error("{0}")]
-    OpenAt(#[from] OpenAtError),
     /// A command of the running database has no answer.
     #[error("{0}")]
     Command(#[from] CommandError),
@@ -74,7 +70,6 @@ impl Drop for Error {
             Error::Execution(error) => drop(error),
             Error::Commit(error) => error.forget(),
             Error::Open(error) => drop(error),
-            Error::OpenAt(error) => drop(error),
             Error::Command(error) => drop(error),
             Error::Ended(error) => drop(error),
             Error::Run(error) => drop(error),

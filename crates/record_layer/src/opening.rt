@@ -1,9 +1,11 @@
 // The running database in a folder, which outlives its process. Called by applications.
-ghost use Rattle.std.specs.Prelude.{IfErr, IfOk, IsNone, List, OnOk};
+ghost use Rattle.std.specs.Prelude.{◌≡◌, IfErr, IfOk, IsNone, List, OnOk};
 ghost use Rattle.cluster_core.specs.Configuration.{config_refusal};
 ghost use Rattle.command_log.specs.declared.entry.Entry.{Entry};
 ghost use Rattle.commit_log.specs.Databases.{AreClientsOver};
+ghost use Rattle.journal_file.specs.declared.folder.FolderError.TheVariants.{OutOfMemory};
 ghost use Rattle.record_layer.specs.Opening.{IsWhyUnopenedAt};
+ghost use Rattle.record_layer.specs.declared.opening.OpenAtError.TheVariants.{Folder};
 
 use cluster_core::Config;
 use commit_log::{DeviceLog, NotOpened, open_kept_on};
@@ -29,14 +31,18 @@ pub enum OpenAtError {
 }
 
 impl From<FolderError> for OpenAtError {
+    ghost from_gives = { λ error made. made ≡ Folder error };
+
     fn from(error: FolderError) -> OpenAtError {
         OpenAtError::Folder(error)
     }
 }
 
 impl From<AllocError> for OpenAtError {
-    fn from(error: AllocError) -> OpenAtError {
-        OpenAtError::Folder(FolderError::from(error))
+    ghost from_gives = { λ _ made. made ≡ Folder OutOfMemory };
+
+    fn from(_error: AllocError) -> OpenAtError {
+        OpenAtError::Folder(FolderError::OutOfMemory)
     }
 }
 
@@ -48,6 +54,7 @@ impl From<AllocError> for OpenAtError {
 ///
 /// It is refused with `Folder` where `open_in_folder` is, and with `Refused` where `open_kept_on`
 /// is.
+#[tactic(auto, using(crate::proofs::Folders::why_at))]
 pub fn open_at<'a, R: Wait + Files<File = File>>(
     rt: &'a R,
     alloc: Global,
