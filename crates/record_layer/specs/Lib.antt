@@ -17,4 +17,4 @@ pub use Rattle.query.specs.Filter
 pub use Rattle.query.specs.View
 pub use Rattle.runtime.specs.Runs
 pub use Rattle.commits.specs.Holds
-pub use Rattle.commit_log.specs.Databases
+pub use Rattle.commit_log.specs.Databases as ClientsOver
