@@ -37,7 +37,7 @@ fn push(changes: &mut Vec<Change>, command: &Command) -> Option<()> {
 fn saves(alloc: Global, number: u64) -> Option<Vec<Change>> {
     let mut changes = Vec::new(alloc);
     for place in 0..SAVES {
-        let key = number.wrapping_mul(SAVES).wrapping_add(place) as i64;
+        let key = i64::try_from(number.wrapping_mul(SAVES).wrapping_add(place)).ok()?;
         let command = save(alloc, key, key).ok()?;
         push(&mut changes, &command)?;
     }

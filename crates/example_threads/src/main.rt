@@ -7,9 +7,10 @@ mod books;
 mod clerks;
 
 use clerks::{TITLE, left, open_shop, sell_beside};
-use record_layer::{Client, Config, End, Error, Waits, open, open_at};
+use record_layer::{Client, Config, End, Error, OpenAtError, Waits, open, open_at};
 use std::alloc::Global;
 use std::fmt::Display;
+use std::fs::{File, Files};
 use std::process::ExitCode;
 use std::sync::Wait;
 use std::thread::Threads;
@@ -114,21 +115,22 @@ fn tell(rt: &HostRuntime, told: Result<Vec<String>, Error>) -> io::Result<ExitCo
 }
 
 /// Opens the database in this folder, and has its clients trade there.
-fn trade_in(rt: &HostRuntime, folder: &str) -> io::Result<ExitCode> {
-    let alloc = rt.alloc();
-    match open_at(rt, alloc, folder, Config::single(alloc)) {
-        Ok(clients) => {
-            let mut clients = clients;
-            tell(rt, demonstrate(rt, alloc, clients.as_mut_slice()))
-        }
-        Err(error) => refuse(rt, &error),
-    }
+fn trade_in<R: Threads + Wait + Files<File = File> + Sync>(
+    rt: &R,
+    alloc: Global,
+    folder: &str,
+) -> Result<Result<Vec<String>, Error>, OpenAtError> {
+    let mut clients = open_at(rt, alloc, folder, Config::single(alloc))?;
+    Ok(demonstrate(rt, alloc, clients.as_mut_slice()))
 }
 
 fn main(rt: HostRuntime) -> io::Result<ExitCode> {
     let words: Vec<String> = env::args(&rt)?.collect(rt.alloc())?;
-    match words.get(1) {
-        Some(folder) => trade_in(&rt, folder.as_str()),
-        None => tell(&rt, trade_anew(&rt, rt.alloc())),
+    let Some(folder) = words.get(1) else {
+        return tell(&rt, trade_anew(&rt, rt.alloc()));
+    };
+    match trade_in(&rt, rt.alloc(), folder.as_str()) {
+        Ok(told) => tell(&rt, told),
+        Err(error) => refuse(&rt, &error),
     }
 }
