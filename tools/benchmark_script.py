@@ -7,8 +7,8 @@ By default 10,000 saves in transactions of 100 records by 4 clients, and no load
 without records, which --disabled disables: each opening of the store reads their states. With --together the clients
 begin together, save and commit in turn, and are settled together. With --build an index of this kind is built over the
 saved records in the end, --records of them in a transaction. With --sql the same work is printed for the shell of
-SQLite (`sqlite3 :memory: < FILE`), one transaction after another, and with --bound as what
-tools/compare_sqlite/prepared.c reads.
+SQLite (`sqlite3 :memory: < FILE`), one transaction after another, with --bound as what
+tools/compare_sqlite/prepared.c reads, and with --called the steps of the script as what `bench calls` reads.
 """
 
 import argparse
@@ -30,6 +30,9 @@ BUILT = {
 }
 
 SQL_KINDS = {"int": "INTEGER", "text": "TEXT"}
+
+# the words of lines that aren't the first letters of steps
+CALLED = {"create": "t", "settle": "e"}
 
 # a prime, with which places are taken here and there
 STRIDE = 7919
@@ -183,6 +186,33 @@ def bound_lines(options):
         yield "\t".join([str(numbers[statement]), *shown])
 
 
+def valued(value):
+    """A value as a line has it."""
+    return f"'{value}" if isinstance(value, str) else str(value)
+
+
+def called_line(options, step):
+    """The line of a step: a word, and what it takes."""
+    word, *client = step[:2]
+    match word:
+        case "create":
+            values = [options.indexes, valued(cells(options, 0)[-1])]
+        case "save" | "load":
+            values = [valued(it) for it in step[3]]
+        case "query" if "filter" in step[2]:
+            values = [step[2]["filter"][2]]
+        case _:
+            values = []
+    return "\t".join(str(it) for it in [CALLED.get(word, word[0]), *client, *values])
+
+
+def called_lines(options):
+    """A line for each step of the script."""
+    for step in steps(options):
+        whole = step[0] == "query" and "filter" not in step[2]
+        yield called_line(options, ["whole", *step[1:]] if whole else step)
+
+
 def main():
     parser = argparse.ArgumentParser(description=__doc__, formatter_class=argparse.RawDescriptionHelpFormatter)
     parser.add_argument("--saves", type=int, default=10_000)
@@ -202,9 +232,12 @@ def main():
     form = parser.add_mutually_exclusive_group()
     form.add_argument("--sql", action="store_true", help="print SQL in place of a script")
     form.add_argument("--bound", action="store_true", help="print statements, and values to bind, in its place")
+    form.add_argument("--called", action="store_true", help="print the steps as lines of words and values in its place")
     options = parser.parse_args()
     if options.sql or options.bound:
         print(*(sql_lines if options.sql else bound_lines)(options), sep="\n")
+    elif options.called:
+        print(*called_lines(options), sep="\n")
     else:
         print(json.dumps({"steps": list(steps(options))}, separators=(",", ":")))
 

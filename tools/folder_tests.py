@@ -9,6 +9,7 @@ which each run sells 20, each by a transaction of its own. The last line is 'N p
 where M is 0.
 """
 import os
+import random
 import subprocess
 import sys
 import tempfile
@@ -87,20 +88,40 @@ def is_unmade(shop, _recordctl, folder):
     return [(("the folder can't be made: a file stands in its place" in told, status), (True, 1))]
 
 
+def gates_of(log):
+    """Where each block of a log begins, and where the last one ends."""
+    gates = [0]
+    while log[gates[-1]] == 1:
+        begin = gates[-1]
+        gates.append(begin + 65 + int.from_bytes(log[begin + 1:begin + 9], "big"))
+    return gates
+
+
+def with_other_bytes(log):
+    """The log with another byte in a block behind which others stand, and that block's place: of each such block two
+    bytes are tried, one of them of its counts, and no gate that is zero, which ends a log."""
+    chosen, gates = random.Random(11), gates_of(log)
+    for begin, end in zip(gates, gates[1:-1]):
+        for at in chosen.randrange(begin, begin + 33), chosen.randrange(begin, end):
+            others = [it for it in range(256) if it != log[at] and (at > begin or it > 0)]
+            yield log[:at] + bytes([chosen.choice(others)]) + log[at + 1:], begin
+
+
 def is_damaged(shop, recordctl, folder):
-    """A log with another byte in its first entry is refused, by its path, and stays as it is."""
-    first, path = ran(shop, folder), os.path.join(folder, "log")
+    """A log with another byte before its last entry is refused, by its path and the place, and stays as it is."""
+    found, path = [(ran(shop, folder), day(COPIES))], os.path.join(folder, "log")
     with open(path, "rb") as file:
-        written = bytearray(file.read())
-    written[written.index(b"Emma")] ^= 1
-    with open(path, "wb") as file:
-        file.write(written)
-    told, status = ran(shop, folder)
-    other, other_status = ran(recordctl, "shell", "--data", folder)
-    with open(path, "rb") as file:
-        is_same = file.read() == bytes(written)
-    return [(first, day(COPIES)), ((told.startswith(f"{path}: "), status), (True, 1)),
-            ((path in other, other_status != 0), (True, True)), (is_same, True)]
+        written = file.read()
+    for damaged, begin in with_other_bytes(written):
+        with open(path, "wb") as file:
+            file.write(damaged)
+        wanted = f"{path}: the log is damaged from byte {begin} on\n"
+        found += [(ran(shop, folder), (wanted, 1))]
+        told, status = ran(recordctl, "shell", "--data", folder)
+        with open(path, "rb") as file:
+            is_same = file.read() == damaged
+        found += [((wanted in told, status != 0, is_same), (True, True, True))]
+    return found
 
 
 TESTS = (goes_on, is_torn, is_listed, is_shelled, is_in_use, is_unmade, is_damaged)

@@ -1,10 +1,11 @@
 """Compares a built program `recordctl` with SQLite over the same works, and prints a table in Markdown.
 
-    compare_sqlite PROGRAM [--sizes SIZE..] [--works WORK..] [--instructions] [--prepared]
+    compare_sqlite PROGRAM [--sizes SIZE..] [--works WORK..] [--instructions] [--prepared] [--calls]
 
 SQLite is the shell, `sqlite3 :memory:`, and SQLite in C: prepared.c beside this file, which does the same by prepared
 statements, and is compiled with `cc` and Debian's libsqlite3-dev. Where it can't be, that is told on standard error,
-and the shell is alone; with --prepared that ends the tool, with the status 2.
+and the shell is alone; with --prepared that ends the tool, with the status 2. With --calls the program is a built
+`bench`, and `bench calls`, which does a work by calls that it makes of short lines, is beside SQLite in C alone.
 
 A work is what tools/benchmark_script.py prints: a script for `recordctl run`, SQL for the shell, and statements with
 values to bind for SQLite in C. First each program runs it with a query of all records in the end, and the rows that
@@ -38,7 +39,9 @@ def options_given():
     parser.add_argument("--rounds", type=int, default=3, help="how often each program runs each script")
     parser.add_argument("--instructions", action="store_true", help=f"count them, up to {INSTRUCTED:,} records")
     parser.add_argument("--prepared", action="store_true", help="don't go on without SQLite in C")
+    parser.add_argument("--calls", action="store_true", help="the program is a built bench, beside SQLite in C alone")
     options = parser.parse_args()
+    options.is_bound = options.prepared or options.calls
     options.program = os.path.abspath(options.program)
     for command in (options.program, "sqlite3", *(["valgrind"] if options.instructions else [])):
         if not shutil.which(command):
@@ -53,11 +56,11 @@ def main():
         try:
             prepared = built(folder)
         except Fault as fault:
-            print(f"{fault}{'' if options.prepared else '; the shell is alone'}", file=sys.stderr, flush=True)
-            if options.prepared:
+            print(f"{fault}{'' if options.is_bound else '; the shell is alone'}", file=sys.stderr, flush=True)
+            if options.is_bound:
                 return 2
-        table = Table(Programs(folder, options.program, prepared, options.rounds), options.beginning,
-                      options.instructions)
+        programs = Programs(folder, options.program, prepared, options.rounds, options.calls)
+        table = Table(programs, options.beginning, options.instructions)
         table.print_head()
         for name in options.works:
             table.print_work(WORKS[name], options.sizes)

@@ -26,8 +26,9 @@ def rows_in(replies):
 
 def compare(programs, words):
     """A fault where the programs don't show the same rows, in the same order, or where they show none."""
-    number, lines = 0, [it.lines(words) for it in programs.others]
-    for number, (row, *others) in enumerate(itertools.zip_longest(rows_in(programs.store.lines(words)), *lines), 1):
+    number, lines, own = 0, [it.lines(words) for it in programs.others], programs.store.lines(words)
+    rows = own if programs.is_called else rows_in(own)
+    for number, (row, *others) in enumerate(itertools.zip_longest(rows, *lines), 1):
         for program, other in zip(programs.others, others):
             if other != row:
                 raise Fault(f"the rows differ: row {number} is {row}, and that of {program.title} is {other}")

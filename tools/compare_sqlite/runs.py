@@ -19,10 +19,13 @@ class Fault(Exception):
 
 
 class Program:
-    """A command that is given works in its form, which the generator prints for some more words, and its title."""
+    """A command that is given works in its form, which the generator prints for some more words, and its title.
 
-    def __init__(self, folder, title, command, form):
-        self.folder, self.title, self.command, self.form = folder, title, command, form
+    The place is that of the quotient which a work wants beside this program, among its goals.
+    """
+
+    def __init__(self, folder, title, command, form, place=0):
+        self.folder, self.title, self.command, self.form, self.place = folder, title, command, form, place
 
     def given(self, words):
         """The file of the work of these words, which is written where it isn't there."""
@@ -68,17 +71,22 @@ class Program:
 
 
 class Programs:
-    """A program `recordctl` and those beside it, each of which runs so many times.
+    """A program `recordctl`, or `bench calls`, and those beside it, each of which runs so many times.
 
-    They are the shell of SQLite, and where its path is given the program that `prepared.built` compiles.
+    They are the shell of SQLite, if it isn't `bench calls`, and where its path is given the program that
+    `prepared.built` compiles.
     """
 
-    def __init__(self, folder, program, prepared, rounds):
-        self.store = Program(folder, "`recordctl`", [program, "run"], [])
-        self.others = [Program(folder, "SQLite", ["sqlite3", ":memory:"], ["--sql"])]
+    def __init__(self, folder, program, prepared, rounds, is_called=False):
+        self.is_called, self.rounds = is_called, rounds
+        if is_called:
+            self.store = Program(folder, "`bench calls`", [program, "calls"], ["--called"])
+            self.others = []
+        else:
+            self.store = Program(folder, "`recordctl`", [program, "run"], [])
+            self.others = [Program(folder, "SQLite", ["sqlite3", ":memory:"], ["--sql"])]
         if prepared:
-            self.others.append(Program(folder, "SQLite in C", [prepared], ["--bound"]))
-        self.rounds = rounds
+            self.others.append(Program(folder, "SQLite in C", [prepared], ["--bound"], 1))
 
     def fitting(self, work, size):
         """The size, or where its script is too long a smaller one, in thousands, whose script isn't."""

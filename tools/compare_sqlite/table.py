@@ -82,8 +82,8 @@ class Table:
         told = memory_told if work.is_memory else time_told
         size_told = work.size_told(size) + (f", in place of {wanted:,}" if size < wanted else "")
         cells = [work.title, size_told, told(spent[0])]
-        for other, goal in zip(spent[1:], work.goals):
-            cells += [told(other), quotient_told(spent[0], other), goal]
+        for program, other in zip(self.programs.others, spent[1:]):
+            cells += [told(other), quotient_told(spent[0], other), work.goals[program.place]]
         cells.append(growth_told(size, spent[0], self.beginning, small[0][0]))
         return cells + (self.instruction_cells(size, counts, small[1]) if self.is_instructed else [])
 

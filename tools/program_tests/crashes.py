@@ -213,10 +213,14 @@ def torn_fault(program, folder):
 
 
 def damage_fault(program, folder):
-    """What is wrong where a byte of an entry is another one, and no zero, or None."""
+    """What is wrong where a byte of an entry is another one, or zero where an entry stands behind it, or None."""
     data, (first, second, third) = made_steps(program, folder, "damaged")
-    for at, begin, lines in (100, 0, b""), (len(first) + 60, len(first), FIRST_ENTRY):
-        damaged = third[:at] + bytes([third[at] ^ 1]) + third[at + 1:]
+    second_at, lost = len(first), len(second.rstrip(b"\0")) - 1
+    for at, other, begin, lines in ((0, 2, 0, b""), (1, 1, 0, b""), (17, 0, 0, b""), (100, third[100] ^ 1, 0, b""),
+                                    (second_at + 17, 254, second_at, FIRST_ENTRY),
+                                    (second_at + 60, third[second_at + 60] ^ 1, second_at, FIRST_ENTRY),
+                                    (lost, 0, second_at, FIRST_ENTRY)):
+        damaged = third[:at] + bytes([other]) + third[at + 1:]
         put(log_of(data), damaged)
         told = f"{log_of(data)}: the log is damaged from byte {begin} on\n".encode()
         fault = (told_fault(program, ["shell", "--data", data], b"settle\n", (1, b"", told))

@@ -9,7 +9,7 @@ use Rattle.command_log.specs.declared.entry.Entry.{Entry}
 use Rattle.replay.specs.Pairs.{all_pairs}
 use Rattle.replay.specs.Replaying.{Image}
 use Rattle.durable.specs.Checkpoints.{HaveHistory}
-use Rattle.durable.specs.Exchanging.{IsCheckpointOf, IsRewritten}
+use Rattle.durable.specs.Exchanging.{HasNoRoomFor, HasNoRoomForAll, IsCheckpointOf, IsRewritten}
 use Rattle.durable.specs.Heads.{checkpoint_bytes}
 use Rattle.durable.specs.Twofold.{KeepsHistory}
 use Rattle.durable.proofs.Histories.{any_file, goes_over}
@@ -31,6 +31,10 @@ made_now next image pairs version batch at are is small few keys = record {
   few = subst (λ (ps : List (List ℕ × List ℕ)). length ps < 2 ^ 64) are few;
   keys = subst (All (λ pair. length pair.0 < 2 ^ 64)) are keys;
 }
+
+-- where there is no room for it, there is none for all pairs
+pub made_room : (next : ℕ) (image : Image) (batch : List (List ℕ)) (file : List ℕ) → IsCheckpointOf next image batch → HasNoRoomFor file batch → HasNoRoomForAll file next image
+made_room next image batch file made full = subst (HasNoRoomFor file) made.is full
 
 module _ {D : Type 0} (seen : D → List ℕ) (may_leave : D → List ℕ → Type 0) (generation next : ℕ) (batch : List (List ℕ)) (device spare new : D) (image : Image) (counted : next ≡ generation + 1) (made : IsCheckpointOf next image batch) where
   small : generation + 1 < 2 ^ 64

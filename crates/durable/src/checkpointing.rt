@@ -61,7 +61,7 @@ pub fn rewrite<D: Device>(
         (device_of journal.new) (IsRewritten (entries_read (D.seen (device_of journal.old)))
         (bytes_of_each batch.now)) }
     ensures unwritten { IfErr result (λ error. IsNotRewritten D.seen D.may_leave D.faults
-        D.wants_memory error (device_of journal.old) journal.new) }
+        D.wants_memory (bytes_of_each batch.now) error (device_of journal.old) journal.new) }
 {
     journal.clear()?;
     journal.append(alloc, batch)
@@ -85,7 +85,7 @@ fn checkpoint_of(alloc: Global, generation: u64, image: &Image) -> Result<Vec<Ve
 
 impl<D: Device> Durable<D> {
     ghost use Rattle.std.specs.Prelude.{OnErr};
-    ghost use Rattle.durable.specs.Exchanging.{IsUnexchanged};
+    ghost use Rattle.durable.specs.Exchanging.{IsOpenAfter};
     ghost use Rattle.durable.specs.Standing.{image_of, log_device};
 
     // Puts these byte strings in the place of all that another journal has, and goes on after them
@@ -113,8 +113,9 @@ impl<D: Device> Durable<D> {
         ensures any_moment_err { OnErr result (LeavesOnly D.moment D.left_since
             (device_of other.old) (device_of other.new)
             (IsRewritten (entries_read (D.seen (device_of other.old))) (bytes_of_each batch.now))) }
-        ensures unexchanged { IfErr result (λ error. IsUnexchanged D.seen D.may_leave D.faults
-            D.wants_memory error (device_of other.old) other.new (log_takes self.new)) }
+        ensures unexchanged { IfErr result (λ error. IsNotRewritten D.seen D.may_leave D.faults
+            D.wants_memory (bytes_of_each batch.now) error (device_of other.old) other.new) }
+        ensures goes_on { IfErr result (λ error. IsOpenAfter error (log_takes self.new)) }
     {
         // A log that goes on while the other device has failed might not be the one that is opened.
         self.is_open = false;
@@ -143,6 +144,7 @@ impl<D: Device> Checkpointed<D> {
     ghost use Rattle.std.specs.Option.{option_copied};
     ghost use Rattle.command_log.specs.declared.entry.Entry.{Entry as EntryValue};
     ghost use Rattle.durable.specs.Checkpoints.{HaveHistory, HaveOnDisk};
+    ghost use Rattle.durable.specs.Exchanging.{HasNoRoomForAll};
     ghost use Rattle.durable.specs.Keeping.{HasNoRoom, entry_at};
     ghost use Rattle.durable.specs.Standing as databases;
     ghost use Rattle.durable.specs.Twofold.{IsAdded, IsUncommittedTwo, KeepsHistory};
@@ -300,6 +302,9 @@ impl<D: Device> Checkpointed<D> {
         // Where it isn't made the database goes on with the same history, or is closed since the
         // device failed.
         ensures unmade { IfErr result (λ error. MakesNoCheckpoint error self.old self.new) }
+        ensures full { IfErr result (λ error. error ≡ CheckpointError.Full
+            → HasNoRoomForAll (D.seen (spare_device self.new)) (generation_of self.old + 1)
+            (image_of self.old)) }
         ensures closed { takes_commits self.old ≡ false
             → IsErrOf result CheckpointError.Closed }
         ensures goes_on { OnErr result (takes_commits self.new ≡ true → (entries : List EntryValue)

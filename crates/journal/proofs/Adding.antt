@@ -2,9 +2,10 @@
 use Rattle.std.proofs.Common.{◌≡◌, inl, inr, ⊎_elim, ℕ, ◌+◌, ◌-◌, ◌<◌, ◌^◌, List, [], ◌∷◌, ◌++◌, length, take, drop, refl, sym, ◌∙◌, ap, ap₂, subst, arith, append_assoc, length-append}
 use Rattle.std.proofs.lemmas.List.{drop-drop, drop-replicate, take-append-drop}
 use Rattle.journal.specs.Device.{HasWritten, IsMixed, Torn, LeftBy, Only, Elapses}
-use Rattle.journal.specs.Form.{zeros, blocks, file_blocks, batch_entries}
+use Rattle.journal.specs.Form.{nonzeros, zeros, blocks, file_blocks, batch_entries}
 use Rattle.journal.specs.Block.{StandsFor}
 use Rattle.journal.specs.Journal.{entries_read, IsKeptAtRest, IsBeforeOrAfter}
+use Rattle.journal.proofs.Bounds.{nonzeros_zeros}
 use Rattle.journal.proofs.Mixtures.{IsPartOf, from_mixed, torn_block}
 use Rattle.journal.proofs.Moments.{Run, begins, calls}
 use Rattle.journal.proofs.Parts.{before_at}
@@ -66,7 +67,7 @@ module _ {D : Type 0} (seen : D → List ℕ) (may_leave : D → List ℕ → Ty
       ∙ ap (λ (r : List ℕ). take end c ++ r) (parts ∙ ap (λ (l : List ℕ). l ++ drop (end + n) c) (whole ∙ sym is_block))
       ∙ sym (append_assoc (take end c) block (drop (end + n) c))))))
       (λ ends. inl (subst (λ f. StandsFor f es) (sym here) (subst (λ e. StandsFor (file_blocks bs ++ (take n (drop end c) ++ drop (end + n) c)) e) (joined_is seen may_leave old end len s) (stands_end bs (take n (drop end c) ++ drop (end + n) c) (size seen may_leave old end len s) ends))))
-      (torn_block batch (take n (drop end c)) (drop (end + n) c) small (subst (λ (b : List ℕ). IsPartOf b (take n (drop end c))) is_block part))
+      (torn_block batch (take n (drop end c)) (drop (end + n) c) small (ap nonzeros rest ∙ nonzeros_zeros (len - (end + n))) (subst (λ (b : List ℕ). IsPartOf b (take n (drop end c))) is_block part))
 
   left_by_block : (one : D) → LeftBy (Torn end block) (may_leave old) (may_leave one) → (c : List ℕ) → may_leave one c → IsLeft c
   left_by_block one crash c left =

@@ -9,7 +9,7 @@ use Rattle.journal.proofs.Readings.{stands_closed}
 
 -- a file whose first gate is shut has no entry
 shut_first : (rest : List ℕ) → StandsFor (0 ∷ rest) []
-shut_first rest = stands_closed [] 0 rest (omega arith) (omega arith)
+shut_first rest = stands_closed [] rest (omega arith)
 
 -- the first byte stays as it is, or is shut
 torn_first : (file c : List ℕ) → 0 < length file → IsMixed file (0 ∷ []) c → drop 1 c ≡ drop 1 file → (c ≡ file) ⊎ ((rest : List ℕ) × (c ≡ 0 ∷ rest))

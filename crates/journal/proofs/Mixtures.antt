@@ -1,15 +1,18 @@
--- What a crash leaves of a block that is written over zeros: all of it, or an end.
-use Rattle.std.proofs.Common.{◌≡◌, ◌⊎◌, ◌==◌, ◌||◌, inl, inr, ℕ, zero, suc, ◌+◌, ◌-◌, ◌<◌, ◌≤◌, ◌^◌, true, List, [], ◌∷◌, ◌++◌, length, take, drop, refl, sym, ◌∙◌, ap, ap₂, subst, arith, length-append}
-use Rattle.std.proofs.lemmas.List.{take_at, drop-drop, take-append-drop}
+-- What a crash leaves of a block that is written over zeros, with zeros behind it: all of it, or an end.
+use Rattle.std.proofs.Common.{◌≡◌, ◌⊎◌, ◌==◌, ◌||◌, inl, inr, ℕ, zero, suc, ◌+◌, ◌-◌, ◌*◌, ◌<◌, ◌≤◌, ◌^◌, true, List, [], ◌∷◌, ◌++◌, length, take, drop, refl, sym, ◌∙◌, ap, ap₂, subst, arith, w64, length-append}
+use Rattle.std.proofs.lemmas.List.{take_at, take-take, drop_at, drop-drop, drop-append-le, take-append-drop}
 use Rattle.std.proofs.lemmas.Bool.{cases_eq, cases_Bool, cases_lt, cond-false, ne_eqb, and_from, and_parts, eq-eqb, eqb-true, or_left, or_right}
+use Rattle.std.proofs.lemmas.Nat.{from_be_bytes-to_be_bytes_8}
+use Rattle.std.specs.Int.{to_be_bytes}
 use Rattle.std.specs.Prelude.{⊤}
 use Rattle.sha2.specs.Sha256.{sha256}
 use Rattle.journal.specs.Device.{IsMixed}
 use Rattle.journal.specs.Form.{zeros, complement, nonzeros, packed, counts, header, blocks}
-use Rattle.journal.specs.Block.{said_number, mirrors, mirrored, counts_fit, counts_torn, tested, what_begins}
+use Rattle.journal.specs.Block.{said_number, mirrors, mirrored, counts_fit, counts_torn, most_said, may_be_torn, tested, what_begins}
 use Rattle.journal.specs.declared.block.First.TheVariants.{End}
-use Rattle.journal.proofs.Headers.{length-header, length-blocks, nonzeros_cons, header_split, take_counts, take_mirror, drop_mirror, said_length-counts, said_count-counts}
-use Rattle.journal.proofs.Firsts.{torn, holed, closed, end_is, tested_torn, fits_by, torn_by, said_number-take}
+use Rattle.journal.proofs.Headers.{length-sha256, length-header, length-blocks, nonzeros_cons, nonzeros_fit, nonzeros-append, header_split, take_counts, take_mirror, drop_mirror, said_length-counts, said_count-counts}
+use Rattle.journal.proofs.Firsts.{IsMissing, torn, closed, end_is, tested_torn, fits_by, torn_by, drop_of_take, said_number-take}
+use Rattle.journal.proofs.Bounds.{may_from, nonzeros_split}
 
 -- the found bytes are the written ones, with zeros in the place of some
 abbrev pub IsPartOf : List ℕ → List ℕ → Type 0
@@ -115,6 +118,49 @@ part_mirrors (byte ∷ bytes) (here ∷ left) (there ∷ right) a b fit =
     let rest = part_mirrors bytes left right a.1 b.1 parts.1 in
     (ap₂ (λ (x : ℕ) (l : List ℕ). x ∷ l) pair.0 rest.0, ap₂ (λ (x : ℕ) (l : List ℕ). x ∷ l) pair.1 rest.1)
 
+-- ---- numbers and their complement
+
+pub length_word : (body : List ℕ) → take 8 (complement (counts body)) ≡ complement (to_be_bytes w64 (length body))
+unfolding counts
+length_word body = refl
+
+pub count_word : (body : List ℕ) → drop 8 (complement (counts body)) ≡ complement (to_be_bytes w64 (nonzeros (sha256 body ++ body)))
+unfolding counts
+count_word body = refl
+
+pair_bound : (byte here : ℕ) → byte < 256 → (here ≡ 0) ⊎ (here ≡ 255 - byte) → here + byte ≤ 255
+pair_bound byte here small (inl none) = omega arith
+pair_bound byte here small (inr same) = omega arith
+
+eight_bound : (a b c d e f g h s t u v w x y z n : ℕ) → a + s ≤ 255 → b + t ≤ 255 → c + u ≤ 255 → d + v ≤ 255 → e + w ≤ 255 → f + x ≤ 255 → g + y ≤ 255 → h + z ≤ 255
+    → s * 72057594037927936 + t * 281474976710656 + u * 1099511627776 + v * 4294967296 + w * 16777216 + x * 65536 + y * 256 + z ≡ n
+    → a * 72057594037927936 + b * 281474976710656 + c * 1099511627776 + d * 4294967296 + e * 16777216 + f * 65536 + g * 256 + h + n ≤ 2 ^ 64 - 1
+eight_bound a b c d e f g h s t u v w x y z n one two three four five six seven eight is = omega arith
+
+-- what is left of a number's complement, and the number
+part_bound : (n : ℕ) (found : List ℕ) → n < 2 ^ 64 → IsPartOf (complement (to_be_bytes w64 n)) found → said_number found + n ≤ 2 ^ 64 - 1
+unfolding said_number
+part_bound n [] small part = absurd part
+part_bound n (a ∷ []) small part = absurd part.1
+part_bound n (a ∷ b ∷ []) small part = absurd part.1.1
+part_bound n (a ∷ b ∷ c ∷ []) small part = absurd part.1.1.1
+part_bound n (a ∷ b ∷ c ∷ d ∷ []) small part = absurd part.1.1.1.1
+part_bound n (a ∷ b ∷ c ∷ d ∷ e ∷ []) small part = absurd part.1.1.1.1.1
+part_bound n (a ∷ b ∷ c ∷ d ∷ e ∷ f ∷ []) small part = absurd part.1.1.1.1.1.1
+part_bound n (a ∷ b ∷ c ∷ d ∷ e ∷ f ∷ g ∷ []) small part = absurd part.1.1.1.1.1.1.1
+part_bound n (a ∷ b ∷ c ∷ d ∷ e ∷ f ∷ g ∷ h ∷ i ∷ more) small part = absurd part.1.1.1.1.1.1.1.1
+part_bound n (a ∷ b ∷ c ∷ d ∷ e ∷ f ∷ g ∷ h ∷ []) small part =
+    eight_bound a b c d e f g h _ _ _ _ _ _ _ _ n
+    (pair_bound _ a (omega arith) part.0)
+    (pair_bound _ b (omega arith) part.1.0)
+    (pair_bound _ c (omega arith) part.1.1.0)
+    (pair_bound _ d (omega arith) part.1.1.1.0)
+    (pair_bound _ e (omega arith) part.1.1.1.1.0)
+    (pair_bound _ f (omega arith) part.1.1.1.1.1.0)
+    (pair_bound _ g (omega arith) part.1.1.1.1.1.1.0)
+    (pair_bound _ h (omega arith) part.1.1.1.1.1.1.1.0)
+    (from_be_bytes-to_be_bytes_8 n small)
+
 -- ---- a block
 
 module _ (body c rest : List ℕ) (small : 65 + length body < 2 ^ 64) (part : IsPartOf (header body ++ body) c) where
@@ -170,30 +216,81 @@ module _ (body c rest : List ℕ) (small : 65 + length body < 2 ^ 64) (part : Is
         ∙ ap (λ (l : List ℕ). counts body ++ (complement (counts body) ++ l)) (part_all (sha256 body ++ body) (drop 32 c) tail enough)
         ∙ sym (header_split body body)
 
-    few_end : nonzeros (drop 32 c) < nonzeros (sha256 body ++ body) → what_begins (1 ∷ c ++ rest) ≡ End
-    few_end fewer =
+    few_missing : nonzeros (drop 32 c) < nonzeros (sha256 body ++ body) → IsMissing (c ++ rest)
+    few_missing fewer = λ fits enough.
         let said : said_number (c ++ rest) ≡ length body = said_here ∙ said_len in
         let block : take (65 + said_number (c ++ rest)) (1 ∷ c ++ rest) ≡ 1 ∷ c = take_at (1 ∷ c) rest (65 + said_number (c ++ rest)) (omega (arith, said, len)) in
-        end_is _ (holed (c ++ rest) (fit_here ∙ fit) (omega (arith, said, len, length-append c rest)) (ap tested block ∙ tested_torn (1 ∷ c) (omega (arith, fewer, said_count))))
+        ap tested block ∙ tested_torn (1 ∷ c) (omega (arith, fewer, said_count))
 
-    decided : (c ≡ header body ++ body) ⊎ (what_begins (1 ∷ c ++ rest) ≡ End)
+    decided : (c ≡ header body ++ body) ⊎ IsMissing (c ++ rest)
     decided = elim (cases_lt (nonzeros (drop 32 c)) (nonzeros (sha256 body ++ body))) [
-      | inl fewer ↦ inr (few_end fewer)
+      | inl fewer ↦ inr (few_missing fewer)
       | inr enough ↦ inl (all_is enough)
     ]
 
-  behind_open : (c ≡ header body ++ body) ⊎ (what_begins (1 ∷ c ++ rest) ≡ End)
-  behind_open = elim (cases_Bool (counts_fit c)) [
+  -- what was written is there, or some of it is missing
+  missing_or : (c ≡ header body ++ body) ⊎ IsMissing (c ++ rest)
+  missing_or = elim (cases_Bool (counts_fit c)) [
     | inl fit ↦ decided fit
-    | inr unfit ↦ inr (end_is _ (torn (c ++ rest) (fit_here ∙ unfit) (torn_here ∙ is_torn)))
+    | inr unfit ↦ inr (λ fits enough. absurd (cc (fit_here, unfit, fits)))
   ]
 
-pub torn_block : (batch : List (List ℕ)) (c rest : List ℕ) → length (blocks batch) < 2 ^ 64 → IsPartOf (blocks batch) c → (c ≡ blocks batch) ⊎ (what_begins (c ++ rest) ≡ End)
-torn_block batch [] rest small part = absurd part
-torn_block batch (gate ∷ c) rest small part = elim (cases_eq gate 1) [
-  | inl is_open ↦ elim (behind_open (packed batch) c rest (omega (arith, small, length-blocks batch)) part.1) [
-    | inl whole ↦ inl (ap₂ (λ (g : ℕ) (l : List ℕ). g ∷ l) is_open whole)
-    | inr ends ↦ inr (subst (λ (g : ℕ). what_begins (g ∷ c ++ rest) ≡ End) (sym is_open) ends)
-  ]
-  | inr shut ↦ inr (end_is _ (closed gate (c ++ rest) shut))
-]
+  -- the number of a half of which a part is left, and the most that was written
+  said_half : (i : ℕ) → i + 8 ≤ 32 → said_number (drop i (c ++ rest)) ≡ said_number (take 8 (drop i c))
+  said_half i within =
+      let front : take (length c - i) (drop i (c ++ rest)) ≡ drop i c = sym (drop_of_take i (length c) (c ++ rest)) ∙ ap (λ (l : List ℕ). drop i l) front in
+      sym (said_number-take (length c - i) (drop i (c ++ rest)) (omega (arith, within, len)))
+      ∙ ap said_number front
+      ∙ sym (said_number-take 8 (drop i c) (omega arith))
+
+  length_half : IsPartOf (complement (to_be_bytes w64 (length body))) (take 8 (drop 16 c))
+  length_half =
+      subst (λ (l : List ℕ). IsPartOf l (take 8 (drop 16 c))) (length_word body)
+      (subst (λ (l : List ℕ). IsPartOf (take 8 (complement (counts body))) l) (take-take 8 16 (drop 16 c) (omega arith)) (part_take 8 (complement (counts body)) (take 16 (drop 16 c)) right_half))
+
+  count_half : IsPartOf (complement (to_be_bytes w64 (nonzeros (sha256 body ++ body)))) (take 8 (drop 24 c))
+  count_half =
+      let there : drop 8 (take 16 (drop 16 c)) ≡ take 8 (drop 24 c) = drop_of_take 8 16 (drop 16 c) ∙ ap (λ (l : List ℕ). take 8 l) (drop-drop 8 16 c) in
+      subst (λ (l : List ℕ). IsPartOf l (take 8 (drop 24 c))) (count_word body)
+      (subst (λ (l : List ℕ). IsPartOf (drop 8 (complement (counts body))) l) there (part_drop 8 (complement (counts body)) (take 16 (drop 16 c)) right_half))
+
+  module _ (nothing : nonzeros rest ≡ 0) where
+    most_length : length body ≤ most_said (drop 16 (c ++ rest))
+    most_length = omega (arith, said_half 16 (omega arith), part_bound (length body) (take 8 (drop 16 c)) (omega (arith, small)) length_half)
+
+    counted : nonzeros (sha256 body ++ body) ≤ most_said (drop 24 (c ++ rest))
+    counted =
+        let fits : nonzeros (sha256 body ++ body) < 2 ^ 64 = omega (arith, small, nonzeros_fit (sha256 body ++ body), length-append (sha256 body) body, length-sha256 body) in
+        omega (arith, said_half 24 (omega arith), part_bound (nonzeros (sha256 body ++ body)) (take 8 (drop 24 c)) fits count_half)
+
+    fewer : nonzeros (drop 32 (c ++ rest)) ≤ most_said (drop 24 (c ++ rest))
+    fewer =
+        omega (arith, counted, nothing, part_fewer (sha256 body ++ body) (drop 32 c) tail, ap nonzeros (drop-append-le 32 c rest (omega (arith, len))), nonzeros-append (drop 32 c) rest)
+
+    none_behind : nonzeros (drop (64 + most_said (drop 16 (c ++ rest))) (c ++ rest)) ≡ 0
+    none_behind =
+        let most = 64 + most_said (drop 16 (c ++ rest)) in
+        let far : most ≡ length c + (most - length c) = omega (arith, most_length, len) in
+        let same : drop most (c ++ rest) ≡ drop (most - length c) rest =
+        ap (λ (k : ℕ). drop k (c ++ rest)) far ∙ sym (drop-drop (most - length c) (length c) (c ++ rest)) ∙ ap (λ (l : List ℕ). drop (most - length c) l) (drop_at c rest (length c) refl) in
+        ap nonzeros same ∙ omega (arith, nothing, nonzeros_split (most - length c) rest)
+
+    may_be : may_be_torn (c ++ rest) ≡ true
+    may_be = may_from (c ++ rest) (record { counts = torn_here ∙ is_torn; fewer = fewer; nothing = none_behind })
+
+pub torn_block : (batch : List (List ℕ)) (c rest : List ℕ) → length (blocks batch) < 2 ^ 64 → nonzeros rest ≡ 0 → IsPartOf (blocks batch) c → (c ≡ blocks batch) ⊎ (what_begins (c ++ rest) ≡ End)
+torn_block batch [] rest small nothing part = absurd part
+torn_block batch (gate ∷ c) rest small nothing part = gates part.0
+  where
+    size : 65 + length (packed batch) < 2 ^ 64
+    size = omega (arith, small, length-blocks batch)
+
+    opened : gate ≡ 1 → (gate ∷ c ≡ blocks batch) ⊎ (what_begins (gate ∷ c ++ rest) ≡ End)
+    opened is_open = elim (missing_or (packed batch) c rest size part.1) [
+      | inl whole ↦ inl (ap₂ (λ (g : ℕ) (l : List ℕ). g ∷ l) is_open whole)
+      | inr missing ↦ inr (subst (λ (g : ℕ). what_begins (g ∷ c ++ rest) ≡ End) (sym is_open) (end_is _ (torn (c ++ rest) missing (may_be (packed batch) c rest size part.1 nothing))))
+    ]
+
+    gates : (gate ≡ 0) ⊎ (gate ≡ 1) → (gate ∷ c ≡ blocks batch) ⊎ (what_begins (gate ∷ c ++ rest) ≡ End)
+    gates (inl shut) = inr (subst (λ (g : ℕ). what_begins (g ∷ c ++ rest) ≡ End) (sym shut) (end_is _ (closed (c ++ rest))))
+    gates (inr is_open) = opened is_open

@@ -1,10 +1,11 @@
 -- What files of blocks stand for.
-use Rattle.std.proofs.Common.{◌≡◌, ◌≢◌, ℕ, zero, suc, ◌+◌, ◌-◌, ◌<◌, ◌^◌, List, [], ◌∷◌, ◌++◌, length, Some, None, refl, ◌∙◌, ap, arith, append_assoc, append-nil, length-append}
+use Rattle.std.proofs.Common.{◌≡◌, ℕ, zero, suc, ◌+◌, ◌-◌, ◌<◌, ◌^◌, List, [], ◌∷◌, ◌++◌, length, Some, None, refl, ◌∙◌, ap, arith, append_assoc, append-nil, length-append}
 use Rattle.journal.specs.Form.{header, packed, blocks, file_blocks, batch_entries}
 use Rattle.journal.specs.Block.{what_begins, Found, goes_on, read_from, found_in, Contents, contents, reading, StandsFor}
 use Rattle.journal.specs.Journal.{entries_read, batches_read}
 use Rattle.journal.specs.declared.block.First.{First}
 use Rattle.journal.specs.declared.block.First.TheVariants.{End, Whole, Damaged}
+use Rattle.journal.specs.declared.block.Head.TheVariants.{Closed}
 use Rattle.journal.proofs.Firsts.{closed, end_is, first_is, first_block}
 
 -- bytes of a block that is read are passed over
@@ -46,7 +47,7 @@ read_end place [] is = refl
 read_end place (byte ∷ bytes) is = ap (λ (f : First (List (List ℕ))). goes_on place f (λ e. read_from (suc place) (length (blocks e) - 1) bytes)) is
 
 pub read_damaged : (place : ℕ) (bytes : List ℕ) → what_begins bytes ≡ Damaged → read_from place 0 bytes ≡ record { batches = []; damage = Some place }
-read_damaged place [] is = let end = first_is [] End refl in absurd (cc (end, is))
+read_damaged place [] is = let end = first_is [] Closed refl in absurd (cc (end, is))
 read_damaged place (byte ∷ bytes) is = ap (λ (f : First (List (List ℕ))). goes_on place f (λ e. read_from (suc place) (length (blocks e) - 1) bytes)) is
 
 pub found_blocks : (batches : List (List (List ℕ))) (rest : List ℕ) → length (file_blocks batches) < 2 ^ 64 → found_in (file_blocks batches ++ rest) ≡ behind batches (read_from (length (file_blocks batches)) 0 rest)
@@ -84,8 +85,8 @@ pub is_damaged : (batches : List (List (List ℕ))) (rest : List ℕ) → length
 is_damaged batches rest small is = reads_as (file_blocks batches ++ rest) ∙ ap contents (found_damaged batches rest small is)
 
 -- a closed gate ends them, whatever stands behind it
-pub stands_closed : (batches : List (List (List ℕ))) (gate : ℕ) (rest : List ℕ) → length (file_blocks batches) < 2 ^ 64 → gate ≢ 1 → StandsFor (file_blocks batches ++ gate ∷ rest) (batch_entries batches)
-stands_closed batches gate rest small shut = stands_end batches (gate ∷ rest) small (end_is _ (closed gate rest shut))
+pub stands_closed : (batches : List (List (List ℕ))) (rest : List ℕ) → length (file_blocks batches) < 2 ^ 64 → StandsFor (file_blocks batches ++ 0 ∷ rest) (batch_entries batches)
+stands_closed batches rest small = stands_end batches (0 ∷ rest) small (end_is _ (closed rest))
 
-pub batches_closed : (batches : List (List (List ℕ))) (gate : ℕ) (rest : List ℕ) → length (file_blocks batches) < 2 ^ 64 → gate ≢ 1 → batches_read (file_blocks batches ++ gate ∷ rest) ≡ batches
-batches_closed batches gate rest small shut = batches_end batches (gate ∷ rest) small (end_is _ (closed gate rest shut))
+pub batches_closed : (batches : List (List (List ℕ))) (rest : List ℕ) → length (file_blocks batches) < 2 ^ 64 → batches_read (file_blocks batches ++ 0 ∷ rest) ≡ batches
+batches_closed batches rest small = batches_end batches (0 ∷ rest) small (end_is _ (closed rest))

@@ -1,28 +1,21 @@
 -- What a crash leaves while the end of a file is repaired.
-use Rattle.std.proofs.Common.{◌≡◌, inl, inr, ⊎_elim, ℕ, zero, suc, ◌+◌, ◌-◌, ◌<◌, ◌≤◌, ◌^◌, true, List, [], ◌∷◌, ◌++◌, length, take, drop, max, min, replicate, refl, sym, ◌∙◌, ap, ap₂, subst, arith, length-append, length-take, length-drop}
+use Rattle.std.proofs.Common.{◌≡◌, ⊎_elim, ℕ, zero, suc, ◌+◌, ◌-◌, ◌<◌, ◌≤◌, ◌^◌, List, [], ◌∷◌, ◌++◌, length, take, drop, max, min, replicate, refl, sym, ◌∙◌, ap, ap₂, subst, arith, length-append, length-take, length-drop}
 use Rattle.std.proofs.lemmas.List.{take_at, drop-drop, take-append-drop}
-use Rattle.std.proofs.lemmas.Bool.{cases_eq}
 use Rattle.journal.specs.Device.{IsMixed, Torn, Cut, LeftBy, Only, Elapses}
 use Rattle.journal.specs.Form.{file_blocks}
-use Rattle.journal.specs.Block.{counts_fit, StandsFor}
+use Rattle.journal.specs.Block.{StandsFor}
 use Rattle.journal.specs.Journal.{entries_read, batches_read, IsKeptAtRest, IsBlocksAndZeros}
 use Rattle.journal.specs.Recovery.{EntriesEndAt}
-use Rattle.journal.proofs.Firsts.{IsEnd, none, closed, short, end_is, end_from, end_front}
+use Rattle.journal.proofs.Bounds.{end_front}
+use Rattle.journal.proofs.Firsts.{IsEnd, none, closed, last, end_is, end_from}
 use Rattle.journal.proofs.Moments.{Run, begins, calls}
 use Rattle.journal.proofs.Parts.{before_at}
 use Rattle.journal.proofs.Readings.{joined_read, stands_end}
 use Rattle.journal.proofs.Settled.{stands_zeros, batches_zeros, kept_zeros}
 
-fits_none : counts_fit [] ≡ true
-unfolding counts_fit
-fits_none = refl
-
 short_is_end : (bytes : List ℕ) → length bytes ≤ 1 → IsEnd bytes
 short_is_end [] few = none
-short_is_end (gate ∷ []) few = elim (cases_eq gate 1) [
-  | inl is_open ↦ subst (λ (g : ℕ). IsEnd (g ∷ [])) (sym is_open) (short [] fits_none (omega arith))
-  | inr shut ↦ closed gate [] shut
-]
+short_is_end (gate ∷ []) few = last gate
 short_is_end (gate ∷ byte ∷ bytes) few = absurd (omega arith)
 
 -- an end with a zero over its first byte, or behind it where it has none
@@ -32,7 +25,7 @@ zero_end (gate ∷ old) [] ends mixed same few = absurd mixed
 zero_end (gate ∷ old) (here ∷ new) ends mixed same few =
     ⊎_elim
     (λ still. subst IsEnd (sym (ap₂ (λ (b : ℕ) (l : List ℕ). b ∷ l) still same)) ends)
-    (λ shut. subst (λ (b : ℕ). IsEnd (b ∷ new)) (sym shut) (closed 0 new (omega arith)))
+    (λ shut. subst (λ (b : ℕ). IsEnd (b ∷ new)) (sym shut) (closed new))
     mixed.0
 
 module _ (file : List ℕ) (end : ℕ) (e : EntriesEndAt file end) (small : length file < 2 ^ 63) where
@@ -68,7 +61,7 @@ module _ (file : List ℕ) (end : ℕ) (e : EntriesEndAt file end) (small : leng
   -- zeros before the tail are an end, as the tail is
   zeros_end : (zeros : ℕ) → IsEnd (replicate zeros 0 ++ drop (end + zeros) file)
   zeros_end zero = let none : end ≡ end + 0 = omega arith in subst (λ (k : ℕ). IsEnd (drop k file)) none (end_from tail e.nothing)
-  zeros_end (suc zeros) = closed 0 (replicate zeros 0 ++ drop (end + suc zeros) file) (λ open_gate. absurd (omega (arith, open_gate)))
+  zeros_end (suc zeros) = closed (replicate zeros 0 ++ drop (end + suc zeros) file)
 
   -- any cut keeps the entries
   cut_front : (c : List ℕ) → Cut end file c → take end c ≡ file_blocks batches

@@ -28,10 +28,10 @@ module _ (batches : List (List (List ℕ))) (room : ℕ) (file : List ℕ) (is :
   closed_is = is ∙ ap (λ (l : List ℕ). file_blocks batches ++ l) (one_zero room some)
 
   pub stands_zeros : StandsFor file (batch_entries batches)
-  stands_zeros = subst (λ f. StandsFor f (batch_entries batches)) (sym closed_is) (stands_closed batches 0 (zeros (room - 1)) size (omega arith))
+  stands_zeros = subst (λ f. StandsFor f (batch_entries batches)) (sym closed_is) (stands_closed batches (zeros (room - 1)) size)
 
   pub batches_zeros : batches_read file ≡ batches
-  batches_zeros = ap batches_read closed_is ∙ batches_closed batches 0 (zeros (room - 1)) size (omega arith)
+  batches_zeros = ap batches_read closed_is ∙ batches_closed batches (zeros (room - 1)) size
 
   -- such a file on the disk is at rest
   pub kept_zeros : {D : Type 0} (seen : D → List ℕ) (may_leave : D → List ℕ → Type 0) (device : D) (end len : ℕ) → seen device ≡ file → end + room ≡ len → length (file_blocks batches) ≡ end → len ≤ 2 ^ 63 → Only (seen device) (may_leave device) → IsKeptAtRest seen may_leave device end len
@@ -76,7 +76,7 @@ module _ {D : Type 0} (seen : D → List ℕ) (may_leave : D → List ℕ → Ty
 
   -- a closed gate behind the blocks
   pub shut_stands : (c rest : List ℕ) → c ≡ file_blocks batches ++ 0 ∷ rest → StandsFor c entries
-  shut_stands c rest is = subst (λ f. StandsFor f entries) (sym is) (subst (λ e. StandsFor (file_blocks batches ++ 0 ∷ rest) e) joined_is (stands_closed batches 0 rest size (omega arith)))
+  shut_stands c rest is = subst (λ f. StandsFor f entries) (sym is) (subst (λ e. StandsFor (file_blocks batches ++ 0 ∷ rest) e) joined_is (stands_closed batches rest size))
 
   pub left_now : (P : List ℕ → Type 0) → ((c : List ℕ) → StandsFor c entries → P c) → (c : List ℕ) → may_leave device c → P c
   left_now P so c left = so c (subst (λ f. StandsFor f entries) (sym (s.durable c left)) sound)

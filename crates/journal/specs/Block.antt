@@ -1,10 +1,12 @@
 -- What a file stands for, whatever a crash, a cut or a fault of the disk made of it.
 use Rattle.std.specs.Prelude.{◌≡◌, ℕ, zero, suc, ◌+◌, ◌-◌, Bool, true, ◌&&◌, ◌||◌, List, [], ◌∷◌, length}
-use Rattle.std.specs.Prelude.{take, drop, if◌then◌else◌, ◌==◌, nat_lt, bytes_eq, Option, Some, None}
+use Rattle.std.specs.Prelude.{◌^◌, take, drop, if◌then◌else◌, ◌==◌, nat_lt, nat_le, bytes_eq, Option, Some, None}
 use Rattle.std.specs.Int.{w64, from_be_bytes}
 use Rattle.journal.specs.Form.{nonzeros, blocks, batch_entries}
 use Rattle.journal.specs.declared.block.First.{First}
 use Rattle.journal.specs.declared.block.First.TheVariants.{End, Whole, Damaged}
+use Rattle.journal.specs.declared.block.Head.{Head}
+use Rattle.journal.specs.declared.block.Head.TheVariants.{Closed, Part, Room, Other}
 
 -- the number that the first eight bytes say
 unfoldable pub said_number : List ℕ → ℕ
@@ -30,18 +32,29 @@ counts_fit bytes = mirrors (take 16 bytes) (take 16 (drop 16 bytes))
 unfoldable pub counts_torn : List ℕ → Bool
 counts_torn bytes = mirrored (take 16 bytes) (take 16 (drop 16 bytes))
 
--- What the bytes behind an open gate say: the length of a batch that they have room for. They are the end where
--- the counts are torn or the block is cut short, and damaged where the counts don't fit their complement.
-abbrev pub behind_gate : List ℕ → First ℕ
-behind_gate bytes =
-    if counts_fit bytes
-    then (if nat_lt (length bytes) (64 + said_number bytes) then End else Whole (said_number bytes))
-    else (if counts_torn bytes then End else Damaged)
+-- The greatest number of which a crash may have left this complement: each byte that it made zero says 255.
+abbrev pub most_said : List ℕ → ℕ
+most_said mirror = 2 ^ 64 - 1 - said_number mirror
 
--- what bytes say of the batch that they begin with; a closed gate is the end
-abbrev pub head_says : List ℕ → First ℕ
-head_says [] = End
-head_says (gate ∷ bytes) = if gate == 1 then behind_gate bytes else End
+-- A crash may have left these bytes of a block, up to the file's end: its counts are whole or torn, no more bytes
+-- than were counted aren't zero, and none of those behind the block.
+unfoldable pub may_be_torn : List ℕ → Bool
+may_be_torn bytes =
+    counts_torn bytes
+    && (nat_le (nonzeros (drop 32 bytes)) (most_said (drop 24 bytes))
+    && nonzeros (drop (64 + most_said (drop 16 bytes)) bytes) == 0)
+
+-- What the bytes behind an open gate say: the length of a batch for whose block they have room. A part of it is
+-- missing where the counts don't fit their complement, or the block is cut short.
+abbrev pub behind_gate : List ℕ → Head
+behind_gate bytes =
+    if counts_fit bytes && nat_le (64 + said_number bytes) (length bytes) then Room (said_number bytes) else Part
+
+-- what bytes say of the batch that they begin with; a closed gate ends them, and any that is the file's last byte
+abbrev pub head_says : List ℕ → Head
+head_says [] = Closed
+head_says (gate ∷ bytes) =
+    if gate == 0 || length bytes == 0 then Closed else (if gate == 1 then behind_gate bytes else Other)
 
 -- the entries that these bytes are packed of, at most so many
 abbrev pub first_entries : ℕ → List ℕ → List (List ℕ)
@@ -54,8 +67,8 @@ first_entries (suc most) bytes =
 unfoldable pub entries_packed : List ℕ → List (List ℕ)
 entries_packed bytes = first_entries (length bytes) bytes
 
--- The batch of a block whose counts fit. It is the end where fewer bytes than were written aren't zero: a crash left
--- zeros in the place of some. Else it is whole if it is what is written of its entries.
+-- The batch of a block whose counts fit. It is the end where fewer bytes than were written aren't zero: some are
+-- missing. Else it is whole if it is what is written of its entries.
 unfoldable pub tested : List ℕ → First (List (List ℕ))
 tested bytes =
     if nat_lt (nonzeros (drop 33 bytes)) (said_number (drop 9 bytes))
@@ -63,11 +76,22 @@ tested bytes =
     else (let entries = entries_packed (drop 65 bytes) in
     if bytes_eq bytes (blocks entries) then Whole entries else Damaged)
 
--- what bytes of which this is said begin with
-abbrev pub block_said : List ℕ → First ℕ → First (List (List ℕ))
-block_said bytes End = End
-block_said bytes (Whole len) = tested (take (65 + len) bytes)
-block_said bytes Damaged = Damaged
+-- bytes of a block of which some are missing: they are the end if a crash may have left them so
+abbrev pub part_said : List ℕ → First (List (List ℕ))
+part_said bytes = if may_be_torn bytes then End else Damaged
+
+-- so they are where the block's test comes to its end, and what it comes to otherwise
+abbrev pub or_part : List ℕ → First (List (List ℕ)) → First (List (List ℕ))
+or_part bytes End = part_said bytes
+or_part bytes (Whole batch) = Whole batch
+or_part bytes Damaged = Damaged
+
+-- what bytes of which this is said begin with; a gate that is neither open nor closed is damage
+abbrev pub block_said : List ℕ → Head → First (List (List ℕ))
+block_said bytes Closed = End
+block_said bytes Part = part_said (drop 1 bytes)
+block_said bytes (Room len) = or_part (drop 1 bytes) (tested (take (65 + len) bytes))
+block_said bytes Other = Damaged
 
 -- what bytes begin with: the end, a whole block of this batch, or damage
 unfoldable pub what_begins : List ℕ → First (List (List ℕ))

@@ -1,9 +1,9 @@
 // Blocks: what is written of a batch, and what bytes of a file begin with.
-ghost use Rattle.std.specs.Prelude.{◌≡◌, ◌≤◌, ◌<◌, ◌^◌, ◌++◌, List, ℕ, length, take, OnOk, IfOk};
-ghost use Rattle.std.specs.Prelude.{drop, IfSome, MatchOption};
+ghost use Rattle.std.specs.Prelude.{◌≡◌, ◌≤◌, ◌<◌, ◌+◌, ◌^◌, ◌++◌, List, ℕ, length, take};
+ghost use Rattle.std.specs.Prelude.{drop, OnOk, IfOk, IfSome, MatchOption};
 ghost use Rattle.journal.specs.Form.{nonzeros, packed, header, blocks, complement};
 ghost use Rattle.journal.specs.Block.{said_number, mirrors, mirrored, counts_fit, counts_torn};
-ghost use Rattle.journal.specs.Block.{head_says, entries_packed};
+ghost use Rattle.journal.specs.Block.{most_said, behind_gate, head_says, entries_packed};
 ghost use Rattle.journal.specs.Words.{bytes_of_each};
 
 use sha2::{Digest, Sha256};
@@ -22,6 +22,19 @@ pub(crate) enum First<E> {
     End,
     Whole(E),
     Damaged,
+}
+
+/// What the head of a block says.
+#[derive(Drop)]
+pub(crate) enum Head {
+    /// The gate is closed, or the file's last byte.
+    Closed,
+    /// The gate is open, and some of the block is missing.
+    Part,
+    /// The gate is open, and there is room for a batch of this length.
+    Room(usize),
+    /// The gate is neither open nor closed.
+    Other,
 }
 
 /// The entries of a whole block, and the block's length.
@@ -133,7 +146,7 @@ fn is_fitting(behind: &[u8]) -> bool
     is_mirror(bytes, mirror)
 }
 
-fn is_torn(behind: &[u8]) -> bool
+pub(crate) fn is_torn(behind: &[u8]) -> bool
     ensures { result ≡ counts_torn behind.now }
 {
     let (bytes, mirror) = halves(behind);
@@ -152,29 +165,49 @@ pub(crate) fn number_said(behind: &[u8]) -> Option<usize>
     Some(u64::from_be_bytes([*a, *b, *c, *d, *e, *f, *g, *h]) as usize)
 }
 
-/// What the bytes say that have this head, `left` of them: the length of a batch that they have
-/// room for, the end, or damage.
-pub(crate) fn read_head(head: &[u8], left: usize) -> First<usize>
+/// The greatest number of which a crash may have left this complement.
+pub(crate) fn most_said(mirror: &[u8]) -> usize
+    requires { 8 ≤ length mirror.now }
+    ensures { result ≡ most_said mirror.now }
+{
+    let Some(number) = number_said(mirror) else {
+        return usize::MAX;
+    };
+    usize::MAX - number
+}
+
+// What the bytes behind an open gate say, `left` with it, that begin with these.
+fn read_behind(behind: &[u8], left: usize) -> Head
+    ensures { (bytes : List ℕ) → behind.now ≡ take 64 bytes → left ≡ 1 + length bytes
+        → result ≡ behind_gate bytes }
+{
+    if !is_fitting(behind) {
+        return Head::Part;
+    }
+    let Some(len) = number_said(behind) else {
+        return Head::Part;
+    };
+    if left < HEAD_BYTES || len > left - HEAD_BYTES {
+        return Head::Part;
+    }
+    Head::Room(len)
+}
+
+/// What the bytes say that have this head, `left` of them.
+pub(crate) fn read_head(head: &[u8], left: usize) -> Head
     ensures { (bytes : List ℕ) → head.now ≡ take 65 bytes → left ≡ length bytes
         → result ≡ head_says bytes }
 {
-    let [OPEN, behind @ ..] = head else {
-        return First::End;
+    let [gate, behind @ ..] = head else {
+        return Head::Closed;
     };
-    if !is_fitting(behind) {
-        return if is_torn(behind) {
-            First::End
-        } else {
-            First::Damaged
-        };
+    if *gate == CLOSED || behind.is_empty() {
+        return Head::Closed;
     }
-    let Some(len) = number_said(behind) else {
-        return First::End;
-    };
-    if left < HEAD_BYTES || len > left - HEAD_BYTES {
-        return First::End;
+    if *gate == OPEN {
+        return read_behind(behind, left);
     }
-    First::Whole(len)
+    Head::Other
 }
 
 /// The entries that these bytes are packed of.

@@ -3,9 +3,9 @@ ghost use Rattle.std.specs.Prelude.{◌≡◌, ◌<◌, ◌≤◌, ◌+◌, ◌^
 ghost use Rattle.std.specs.Prelude.{take, drop, true, Option, None, IfOk, IfErr, OnOk};
 ghost use Rattle.std.specs.Prelude.{if◌then◌else◌, bytes_eq};
 ghost use Rattle.journal.specs.declared.block.First.TheVariants.{Whole, Damaged};
-ghost use Rattle.journal.specs.Form.{blocks};
+ghost use Rattle.journal.specs.Form.{nonzeros, blocks};
 ghost use Rattle.journal.specs.Device.{Only, LeavesOnly, HasCause, Reads};
-ghost use Rattle.journal.specs.Block.{reading, tested, what_begins, StandsFor};
+ghost use Rattle.journal.specs.Block.{reading, tested, part_said, what_begins, StandsFor};
 ghost use Rattle.journal.specs.Journal.{entries_read, damage_read, IsBlocksAndZeros, IsKeptAtRest};
 ghost use Rattle.journal.specs.Standing.{device_of, is_open};
 ghost use Rattle.journal.specs.Words.{bytes_of_each};
@@ -13,11 +13,14 @@ ghost use Rattle.journal.specs.Recovery.{IsAsBefore, TookFirst, HasReason, Leave
 ghost use Rattle.journal.specs.Recovery.{EntriesEndAt, batch_bytes};
 
 use crate::block::{
-    Batch, CLOSED, First, HEAD_BYTES, block_of, count_nonzeros, number_said, read_head,
-    unpacked_entries,
+    Batch, CLOSED, First, HEAD_BYTES, Head, block_of, count_nonzeros, is_torn, most_said,
+    number_said, read_head, unpacked_entries,
 };
 use crate::{Device, DeviceError, Journal, RecoverError, Sink, Unrecovered};
 use std::alloc::{AllocError, Global};
+
+// Behind a block of which a part is missing the file is read in pieces of so many bytes.
+const PIECE_BYTES: usize = 1 << 16;
 
 // The batch of these entries, if the block is what is written of it.
 fn test_entries(
@@ -55,6 +58,82 @@ fn test_block(alloc: Global, block: &[u8]) -> Result<First<Batch>, AllocError>
     Ok(found)
 }
 
+// The batch of a block that has room at a place.
+fn read_whole<D: Device>(
+    alloc: Global,
+    device: &mut D,
+    at: usize,
+    size: usize,
+) -> Result<First<Batch>, DeviceError>
+    requires room { at + (65 + size) ≤ length (D.seen device.old) }
+    requires small { length (D.seen device.old) < 2 ^ 63 }
+    ensures found { IfOk result (λ f. batch_bytes f
+        ≡ tested (take (65 + size) (drop at (D.seen device.old)))) }
+    ensures reads { Reads D.seen D.may_leave D.moment D.left_since device.old device.new }
+    ensures cause { HasCause (D.faults device.old) (D.faults device.new) result }
+{
+    let block = device.read_at(alloc, at, HEAD_BYTES + size)?;
+    Ok(test_block(alloc, &block)?)
+}
+
+// How many bytes of a file of this length aren't zero, from a place on.
+fn count_from<D: Device>(
+    alloc: Global,
+    device: &mut D,
+    from: usize,
+    len: usize,
+) -> Result<usize, DeviceError>
+    requires all { len ≡ length (D.seen device.old) }
+    requires small { len < 2 ^ 63 }
+    ensures count { IfOk result (λ count. count ≡ nonzeros (drop from (D.seen device.old))) }
+    ensures reads { Reads D.seen D.may_leave D.moment D.left_since device.old device.new }
+    ensures cause { HasCause (D.faults device.old) (D.faults device.new) result }
+{
+    let mut at = from;
+    let mut count = 0;
+    while at < len {
+        let piece = device.read_at(alloc, at, PIECE_BYTES)?;
+        count += count_nonzeros(&piece);
+        at += PIECE_BYTES;
+    }
+    Ok(count)
+}
+
+// The end, if a crash may have left a part of a block at this place, and else damage.
+fn read_part<D: Device>(
+    alloc: Global,
+    device: &mut D,
+    behind: &[u8],
+    at: usize,
+    len: usize,
+) -> Result<First<Batch>, DeviceError>
+    requires all { len ≡ length (D.seen device.old) }
+    requires within { at < len }
+    requires small { len < 2 ^ 63 }
+    requires behind { behind.now ≡ take 64 (drop (at + 1) (D.seen device.old)) }
+    ensures found { IfOk result (λ f. batch_bytes f
+        ≡ part_said (drop (at + 1) (D.seen device.old))) }
+    ensures reads { Reads D.seen D.may_leave D.moment D.left_since device.old device.new }
+    ensures cause { HasCause (D.faults device.old) (D.faults device.new) result }
+{
+    if !is_torn(behind) {
+        return Ok(First::Damaged);
+    }
+    if behind.len() < 32 {
+        return Ok(First::End);
+    }
+    let count = count_from(alloc, device, at + 33, len)?;
+    if count > most_said(&behind[24..]) {
+        return Ok(First::Damaged);
+    }
+    let most = most_said(&behind[16..]).min(len - at);
+    let rest = count_from(alloc, device, at + HEAD_BYTES + most, len)?;
+    if rest > 0 {
+        return Ok(First::Damaged);
+    }
+    Ok(First::End)
+}
+
 // What stands at a place of a file of this length.
 fn read_block<D: Device>(
     alloc: Global,
@@ -71,12 +150,14 @@ fn read_block<D: Device>(
 {
     let head = device.read_at(alloc, at, HEAD_BYTES)?;
     match read_head(&head, len - at) {
-        First::End => Ok(First::End),
-        First::Damaged => Ok(First::Damaged),
-        First::Whole(size) => {
-            let block = device.read_at(alloc, at, HEAD_BYTES + size)?;
-            Ok(test_block(alloc, &block)?)
-        }
+        Head::Closed => Ok(First::End),
+        Head::Other => Ok(First::Damaged),
+        Head::Part => read_part(alloc, device, &head[1..], at, len),
+        Head::Room(size) => match read_whole(alloc, device, at, size)? {
+            First::End => read_part(alloc, device, &head[1..], at, len),
+            First::Whole(batch) => Ok(First::Whole(batch)),
+            First::Damaged => Ok(First::Damaged),
+        },
     }
 }
 

@@ -21,7 +21,7 @@ use Rattle.schedule.specs.Holds.{HoldsAll}
 use Rattle.schedule.specs.declared.step.Step.{Step}
 use Rattle.schedule.specs.Stepwise.{whole_cluster}
 use Rattle.durable.specs.Checkpoints.{HaveHistory, IsOlder}
-use Rattle.durable.specs.Exchanging.{IsCheckpointOf, IsRewritten}
+use Rattle.durable.specs.Exchanging.{HasNoRoomFor, HasNoRoomForAll, IsCheckpointOf, IsRewritten}
 use Rattle.durable.specs.Heads.{checkpoint_bytes}
 use Rattle.durable.specs.Twofold.{KeepsHistory}
 use Rattle.durable.proofs.Histories.{stays_here, whole_history}
@@ -35,7 +35,7 @@ use Rattle.replay.specs.Continuing.{config_after}
 use Rattle.logged_schedule.specs.Reopening.{IsOpenedOnHistory}
 use Rattle.logged_schedule.specs.Runs.{IsHeldLog, Run, done_as, past_in, with_step}
 use Rattle.logged_schedule.specs.Standing.{BeginsFollowed, HasFollowed, run_over}
-use Rattle.logged_schedule.specs.Twofold.{HaveAllOrNone, IsKeptStepTwo, KeepsRunTwo, checkpoints_of, image_after, current_device, schedule_of, other_device}
+use Rattle.logged_schedule.specs.Twofold.{HaveAllOrNone, IsKeptStepTwo, KeepsRunTwo, checkpoints_of, image_after, image_reported, current_device, schedule_of, other_device}
 use Rattle.logged_schedule.proofs.Lawful.{logs_go_on}
 use Rattle.logged_schedule.proofs.Logs.{log_more, log_same}
 use Rattle.logged_schedule.proofs.Longer.{longer_past}
@@ -51,6 +51,11 @@ logged_held entries image logged = record { lawful = logged.lawful; holds = subs
 
 image_is : (entries : List Entry) (image : Image) → IsLogged entries image → image ≡ image_after entries
 image_is entries image logged = ap₂ (λ (m : Map) (v : ℕ). record { map = m; version = v }) logged.map logged.version
+
+-- byte strings of the pairs that servers have are those of what is committed
+pub pairs_written : (c w : ClusterState) (pairs : List (List ℕ × List ℕ)) (version next : ℕ) (batch : List (List ℕ)) → pairs ≡ all_pairs (database_at c c.pipeline.reported) → whole_cluster c ≡ w → batch ≡ checkpoint_bytes next version pairs →
+    batch ≡ checkpoint_bytes next version (all_pairs (database_at w w.pipeline.reported))
+pairs_written c w pairs version next batch are whole is = is ∙ ap (checkpoint_bytes next version) (are ∙ ap (λ (k : ClusterState). all_pairs (database_at k k.pipeline.reported)) whole)
 
 -- fewer pairs than the limit are all
 pub whole_read : (m : Map) (range : KeyRange) (items : List (List ℕ × List ℕ)) (limit : ℕ) → items ≡ read_of m range limit false → length items < limit → range ≡ every_key → items ≡ all_pairs m
@@ -204,6 +209,11 @@ module _ {D : Type 0} {G : Ghosts D} (seen : D → List ℕ) (may_leave : D → 
       goes_on_with run entries before after keeps same is_last
       (subst₂ (λ g d. KeepsHistory seen may_leave entries g d (other_device after) (image_after entries)) (sym is_generation) (sym is_log)
       (stays_here seen may_leave entries (checkpoints_of before) (current_device before) (other_device before) (image_after entries) keeps.history (other_device after) none durable))
+
+  -- where it isn't, for want of room
+  pub without_room : (before after : TwofoldSchedule D G) (next : ℕ) (batch : List (List ℕ)) (new : D) → next ≡ checkpoints_of before + 1 → batch ≡ checkpoint_bytes next (image_reported before).version (all_pairs (image_reported before).map) → other_device after ≡ new → HasNoRoomFor (seen new) batch →
+      HasNoRoomForAll (seen (other_device after)) (checkpoints_of before + 1) (image_reported before)
+  without_room before after next batch new counted written is_spare full = subst₂ (λ g d. HasNoRoomForAll (seen d) g (image_reported before)) counted (sym is_spare) (subst (HasNoRoomFor (seen new)) written full)
 
   module _ (moment : D → ℕ) (left_since : D → ℕ → List ℕ → Type 0) where
     -- a crash while it is written leaves the history

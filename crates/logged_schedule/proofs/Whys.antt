@@ -11,6 +11,7 @@ use Rattle.cluster_core.specs.declared.answers.Config.{Config}
 use Rattle.cluster_core.specs.declared.answers.ConfigError.{ConfigError}
 use Rattle.journal.specs.Journal.{damage_read, entries_read}
 use Rattle.journal.specs.Recovery.{HasReason}
+use Rattle.journal.specs.declared.device.Device.{Ghosts}
 use Rattle.journal.specs.declared.error.RecoverError.{RecoverError}
 use Rattle.journal.specs.declared.error.RecoverError.TheVariants as recovers
 use Rattle.std.specs.declared.alloc.AllocError.{AllocError}
@@ -28,8 +29,9 @@ use Rattle.durable.specs.declared.error.ReopenError.{ReopenError}
 use Rattle.durable.specs.declared.error.ReopenError.TheVariants as reopens
 use Rattle.logged_schedule.specs.declared.error.Unmade.{Unmade}
 use Rattle.logged_schedule.specs.declared.error.Unmade.TheVariants as unmade
+use Rattle.logged_schedule.specs.declared.twofold.TwofoldSchedule.{TwofoldSchedule}
 use Rattle.logged_schedule.specs.Reopening.{IsNotOpenedTwo}
-use Rattle.logged_schedule.specs.Twofold.{IsNotMade, IsNotRead}
+use Rattle.logged_schedule.specs.Twofold.{IsNotMade, IsNotPrepared, IsNotRead, checkpoints_of, schedule_of}
 use Rattle.logged_schedule.specs.Refusals.{IsNoLogFor, IsNoneOpened, IsNotBegun, IsNotBegunAgain}
 use Rattle.logged_schedule.specs.Told.{begun_error, files_error, opening_error, replay_error, schedule_error}
 
@@ -104,10 +106,17 @@ same_tier c =
     ap (λ (servers : List ServerState). record { splits = c.splits; window = c.pipeline.window; servers = servers })
     (sym (same-servers c.base c.pipeline (whole c.pipeline) (total c.pulled) refl refl (λ version below. refl) (owners c.splits) c.pulled (each_below c.pulled (total c.pulled) (omega arith))))
 
--- where pairs aren't read it isn't made
-pub not_made : (c w : ClusterState) (generation : ℕ) (why : Unmade) → whole_cluster c ≡ w → IsNotRead c why → IsNotMade w generation why
-not_made c w generation unmade.Memory same not = tt
-not_made c w generation unmade.Full same not = tt
-not_made c w generation unmade.Exhausted same not = absurd not
-not_made c w generation unmade.Behind same (error, refused) =
+-- where pairs aren't read it isn't prepared
+pub not_prepared : (c w : ClusterState) (generation : ℕ) (why : Unmade) → whole_cluster c ≡ w → IsNotRead c why → IsNotPrepared w generation why
+not_prepared c w generation unmade.Memory same not = tt
+not_prepared c w generation unmade.Full same not = absurd not
+not_prepared c w generation unmade.Exhausted same not = absurd not
+not_prepared c w generation unmade.Behind same (error, refused) =
     (error, subst (λ (k : ClusterState). refusal (tier_of k) every_key k.pipeline.reported ≡ Some error) same (subst (λ tier. refusal tier every_key c.pipeline.reported ≡ Some error) (same_tier c) refused))
+
+-- and so not made
+pub not_made : {D : Type 0} {G : Ghosts D} (seen : D → List ℕ) (two : TwofoldSchedule D G) (spare : D) (why : Unmade) → IsNotPrepared (schedule_of two).database.cluster (checkpoints_of two) why → IsNotMade seen two spare why
+not_made seen two spare unmade.Memory not = tt
+not_made seen two spare unmade.Full not = absurd not
+not_made seen two spare unmade.Exhausted not = not
+not_made seen two spare unmade.Behind not = not

@@ -1,6 +1,6 @@
 -- A schedule whose log is on one of two devices in turn: what is seen of it, and what its files have of its run.
-use Rattle.std.specs.Prelude.{◌≡◌, ◌⊎◌, ◌≤◌, ℕ, ◌-◌, ◌^◌, List, ◌++◌, Some, ⊤}
-use Rattle.cluster_core.specs.Cluster.{ClusterState, tier_of}
+use Rattle.std.specs.Prelude.{◌≡◌, ◌⊎◌, ◌≤◌, ℕ, ◌+◌, ◌-◌, ◌^◌, List, ◌++◌, Some, ⊤}
+use Rattle.cluster_core.specs.Cluster.{ClusterState, database_at, tier_of}
 use Rattle.cluster_core.specs.Tier.{refusal}
 use Rattle.kv_core.specs.declared.snapshot.ReadError.{ReadError}
 use Rattle.journal.specs.Device.{LeavesOnly}
@@ -14,6 +14,7 @@ use Rattle.schedule.specs.declared.reply.Reply.{Reply}
 use Rattle.schedule.specs.declared.step.Step.{Step}
 use Rattle.schedule.specs.Stepwise.{StepwiseState}
 use Rattle.durable.specs.Checkpoints.{HaveHistory}
+use Rattle.durable.specs.Exchanging.{HasNoRoomForAll}
 use Rattle.durable.specs.Twofold.{KeepsHistory}
 use Rattle.logged_schedule.specs.declared.error.Unmade.{Unmade}
 use Rattle.logged_schedule.specs.declared.error.Unmade.TheVariants.{Memory, Full, Exhausted, Behind}
@@ -39,6 +40,12 @@ other_device two = journals.device_of two.spare
 -- how many checkpoints its history has
 abbrev pub checkpoints_of : {D : Type 0} {G : Ghosts D} → TwofoldSchedule D G → ℕ
 checkpoints_of two = two.generation
+
+-- what a checkpoint has of it: the database at the last reported version, at the version of the last entry
+abbrev pub image_reported : {D : Type 0} {G : Ghosts D} → TwofoldSchedule D G → Image
+image_reported two =
+    let c = (schedule_of two).database.cluster in
+    record { map = database_at c c.pipeline.reported; version = two.last }
 
 -- the database that entries come to, at the version of the last one
 abbrev pub image_after : List Entry → Image
@@ -92,9 +99,12 @@ IsNotRead c Memory = ⊤
 IsNotRead c Behind = (error : ReadError) × (refusal (tier_of c) every_key c.pipeline.reported ≡ Some error)
 IsNotRead c error = ⊥
 
--- why no checkpoint is made: memory or room doesn't suffice, the last generation was given, or the servers can't be
--- read
-abbrev pub IsNotMade : ClusterState → ℕ → Unmade → Type 0
-IsNotMade c generation Full = ⊤
-IsNotMade c generation Exhausted = generation ≡ 2 ^ 64 - 1
-IsNotMade c generation error = IsNotRead c error
+-- why no checkpoint is prepared: memory doesn't suffice, the last generation was given, or servers can't be read
+abbrev pub IsNotPrepared : ClusterState → ℕ → Unmade → Type 0
+IsNotPrepared c generation Exhausted = generation ≡ 2 ^ 64 - 1
+IsNotPrepared c generation error = IsNotRead c error
+
+-- why no checkpoint is made: for one of these reasons, or since the other device's file has no room for it
+abbrev pub IsNotMade : {D : Type 0} {G : Ghosts D} → (D → List ℕ) → TwofoldSchedule D G → D → Unmade → Type 0
+IsNotMade seen two spare Full = HasNoRoomForAll (seen spare) (checkpoints_of two + 1) (image_reported two)
+IsNotMade seen two spare error = IsNotPrepared (schedule_of two).database.cluster (checkpoints_of two) error

@@ -39,12 +39,15 @@ impl<D: Device> TwofoldSchedule<D> {
     ghost use Rattle.journal.specs.Device.{LeavesOnly};
     ghost use Rattle.journal.specs.Standing.{device_of};
     ghost use Rattle.journal.specs.Words.{bytes_of_each};
+    ghost use Rattle.replay.specs.Pairs.{all_pairs};
     ghost use Rattle.schedule.specs.Stepwise.{DoesNext};
     ghost use Rattle.durable.specs.Checkpoints.{HaveHistory};
     ghost use Rattle.durable.specs.Exchanging.{IsCheckpointOf};
+    ghost use Rattle.durable.specs.Heads.{checkpoint_bytes};
     ghost use Rattle.logged_schedule.specs.Runs.{Run};
-    ghost use Rattle.logged_schedule.specs.Twofold.{IsKeptStepTwo, IsNotMade, IsWithoutAnswerTwo};
-    ghost use Rattle.logged_schedule.specs.Twofold.{KeepsRunTwo, checkpoints_of, image_after};
+    ghost use Rattle.logged_schedule.specs.Twofold.{IsKeptStepTwo, IsNotMade, IsNotPrepared};
+    ghost use Rattle.logged_schedule.specs.Twofold.{IsWithoutAnswerTwo, KeepsRunTwo};
+    ghost use Rattle.logged_schedule.specs.Twofold.{checkpoints_of, image_after, image_reported};
     ghost use Rattle.logged_schedule.specs.Twofold.{current_device, schedule_of, other_device};
 
     // A schedule that is what its history comes to, whose last entry has this version.
@@ -171,7 +174,10 @@ impl<D: Device> TwofoldSchedule<D> {
             → KeepsRunTwo D.seen D.may_leave run entries self.now
             → IsCheckpointOf made.generation (image_after entries)
             (bytes_of_each made.batch.items)) }
-        ensures unmade { IfErr result (IsNotMade (schedule_of self.now).database.cluster
+        ensures written { IfOk result (λ made. let image = image_reported self.now in
+            bytes_of_each made.batch.items
+            ≡ checkpoint_bytes made.generation image.version (all_pairs image.map)) }
+        ensures unmade { IfErr result (IsNotPrepared (schedule_of self.now).database.cluster
             (checkpoints_of self.now)) }
     {
         let Some(generation) = self.generation.checked_add(1) else {
@@ -228,7 +234,7 @@ impl<D: Device> TwofoldSchedule<D> {
 
         // Why it isn't made, and the generation stays then.
         ensures unmade { IfOk result (λ done. IfErr done.1 (λ error.
-            IsNotMade (schedule_of self).database.cluster (checkpoints_of self) error
+            IsNotMade D.seen self (other_device done.0) error
             × (checkpoints_of done.0 ≡ checkpoints_of self))) }
         ensures failed { IfErr result (λ failed. failed.error ≡ DeviceError.Failed
             → D.faults (other_device self) < D.faults failed.spare) }

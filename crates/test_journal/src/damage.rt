@@ -1,6 +1,9 @@
 // Files that are cut short at each length, or of which one byte is another one. Run as tests.
+ghost use Rattle.std.specs.Prelude.{◌<◌};
+
 use crate::parts::{
-    ENTRIES, LOOKED_AT, are_first, block_at, damage_of, holds, looked_at, looks_torn,
+    ENTRIES, LAST_END, LAST_GATE, LOOKED_AT, are_first, block_at, damage_of, holds, looked_at,
+    looks_torn,
 };
 use journal::Kept;
 use std::alloc::Global;
@@ -49,16 +52,52 @@ fn is_told(alloc: Global, file: &[u8], place: usize, other: u8) -> Result<(), Fa
     )
 }
 
-/// Each byte of the blocks in turn is another one, or zero, as a crash may leave it.
-#[test]
-fn other_bytes_are_told(rt: HostRuntime) -> Result<(), Fail> {
-    let file = looked_at(rt.alloc())?;
-    holds(block_at(253).0 == ENTRIES.len(), "the blocks of the file")?;
+/// How far apart the values are that are tried at a place: all at a gate, a count or a complement
+/// behind which another block stands, and zero, the greatest and others elsewhere.
+fn step_at(place: usize) -> usize
+    ensures { 0 < result }
+{
+    let (_, gate) = block_at(place);
+    if gate < LAST_GATE && place.saturating_sub(gate) < 33 {
+        1
+    } else {
+        51
+    }
+}
+
+fn others_are_told(alloc: Global, file: &[u8], place: usize) -> Result<(), Fail> {
+    for other in (0..256_usize).step_by(step_at(place)) {
+        is_told(alloc, file, place, (other % 256) as u8)?;
+    }
+    Ok(())
+}
+
+/// Each byte of a block in turn is another one.
+fn block_is_told(alloc: Global, gate: usize) -> Result<(), Fail> {
+    let file = looked_at(alloc)?;
     for (place, byte) in file.iter().enumerate() {
-        if place < 254 {
-            is_told(rt.alloc(), &file, place, *byte ^ 1)?;
-            is_told(rt.alloc(), &file, place, 0)?;
+        if block_at(place).1 == gate && place <= LAST_END {
+            is_told(alloc, &file, place, *byte ^ 1)?;
+            others_are_told(alloc, &file, place)?;
         }
     }
     Ok(())
+}
+
+#[test]
+fn other_bytes_of_the_first_block_are_told(rt: HostRuntime) -> Result<(), Fail> {
+    block_is_told(rt.alloc(), block_at(0).1)
+}
+
+#[test]
+fn other_bytes_of_the_second_block_are_told(rt: HostRuntime) -> Result<(), Fail> {
+    block_is_told(rt.alloc(), block_at(LAST_GATE - 1).1)
+}
+
+#[test]
+fn other_bytes_of_the_last_block_are_told(rt: HostRuntime) -> Result<(), Fail> {
+    holds(block_at(LAST_END).0 == ENTRIES.len(), "the blocks")?;
+    holds(block_at(LAST_END - 1).1 == LAST_GATE, "the last block")?;
+    block_is_told(rt.alloc(), LAST_GATE)?;
+    block_is_told(rt.alloc(), LAST_END)
 }

@@ -1,5 +1,6 @@
 //! Tests of the journal: a device that fails in each call of a run, files that are cut short at
-//! each length, and files of which each byte in turn is another one.
+//! each length, files of which each byte in turn is another one, and what a crash may leave of an
+//! append.
 #![tactic(auto)]
 
 #[cfg(test)]
@@ -10,3 +11,5 @@ mod failing;
 mod files;
 #[cfg(test)]
 mod parts;
+#[cfg(test)]
+mod torn;

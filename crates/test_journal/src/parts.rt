@@ -14,6 +14,12 @@ pub static BATCHES: [[&str; 2]; 3] = [["a", ""], ["bcd", "e"], ["", "fghij"]];
 /// Where the gates of a run's file stand, the closed one last.
 static GATES: [usize; 4] = [0, 82, 167, 253];
 
+/// The gate of the last block.
+pub const LAST_GATE: usize = 167;
+
+/// Where that block ends.
+pub const LAST_END: usize = 253;
+
 /// How many bytes of a run's file are looked at: its blocks, and some zeros behind them.
 pub const LOOKED_AT: usize = 300;
 
@@ -92,12 +98,18 @@ pub fn looked_at(alloc: Global) -> Result<Vec<u8>, Fail> {
     Ok(front.to_vec(alloc)?)
 }
 
-/// Whether a file with this byte changed looks as if a crash had left it so: the byte is a gate; or
-/// it is one of a count, and it or its partner is zero; or it is one behind them, and is zero.
+/// Whether a file with this byte changed looks as if a crash had left it so: the byte is a gate,
+/// and closed or open; or it is one of the last block, and is zero, or is one of a count or its
+/// complement where the other of both is zero.
 pub fn looks_torn(bytes: &[u8], gate: usize, place: usize) -> bool {
     let at = |place: usize| bytes.get(place).copied() == Some(0);
+    if place == gate {
+        return at(place) || bytes.get(place).copied() == Some(1);
+    }
+    if gate < LAST_GATE {
+        return false;
+    }
     match place.saturating_sub(gate) {
-        0 => true,
         1..17 => at(place) || at(place.saturating_add(16)),
         17..33 => at(place) || at(place.saturating_sub(16)),
         _ => at(place),

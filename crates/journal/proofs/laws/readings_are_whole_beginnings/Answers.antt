@@ -1,3 +1,4 @@
+use Rattle.journal.proofs.Changes.{no_end}
 use Rattle.journal.proofs.Readings.{stands_end, is_damaged}
 use Rattle.journal.proofs.Splits.{splits}
 use Rattle.journal.proofs.laws.readings_are_whole_beginnings.Goals as goal
@@ -10,3 +11,6 @@ returns-clause-ends c = stands_end
 
 pub returns-clause-damaged : goal.returns-clause-damaged
 returns-clause-damaged c = is_damaged
+
+pub returns-clause-no_end : goal.returns-clause-no_end
+returns-clause-no_end c = no_end
