@@ -23,13 +23,26 @@ use std::marker::Model;
 /// continued by a new one, so rising keys fill theirs, also in the middle of a map; and blocks that
 /// fit into one are joined, so each two neighbours have more than 64 entries. It keeps its
 /// allocator, so that its methods take none.
-#[derive(Debug, Drop)]
+#[derive(Debug)]
 pub struct BlockMap<V> {
     alloc: Global,
     len: usize,
     // Where a key was looked for in vain the last time: there the next one is likely to be put.
     near: (usize, usize),
     blocks: Blocks<V>,
+}
+
+// Written out, so that no proof of a caller has to take its parts apart where one is dropped.
+impl<V: Drop> Drop for BlockMap<V> {
+    fn drop(self) {
+        let BlockMap {
+            alloc: _,
+            len: _,
+            near: _,
+            blocks,
+        } = self;
+        drop(blocks);
+    }
 }
 
 impl<V> Model for BlockMap<V> {

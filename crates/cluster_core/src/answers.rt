@@ -39,9 +39,17 @@ impl Config {
 }
 
 /// Keys between which roles own the keys.
-#[derive(Debug, Drop)]
+#[derive(Debug)]
 pub struct Splits {
     splits: Vec<Bytes>,
+}
+
+// Written out, so that no proof of a caller has to take its parts apart where one is dropped.
+impl Drop for Splits {
+    fn drop(self) {
+        let Splits { splits } = self;
+        drop(splits);
+    }
 }
 
 impl Model for Splits {

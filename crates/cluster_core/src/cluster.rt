@@ -28,11 +28,25 @@ use std::marker::Model;
 
 /// The whole cluster: the sequencer, the resolvers and the logs, and the storage servers, which
 /// pull from the logs.
-#[derive(Debug, Drop)]
+#[derive(Debug)]
 pub struct Cluster {
     base: Base,
     pipeline: Pipeline,
     tier: Tier,
+}
+
+// Written out, so that no proof of a caller has to take its parts apart where one is dropped.
+impl Drop for Cluster {
+    fn drop(self) {
+        let Cluster {
+            base,
+            pipeline,
+            tier,
+        } = self;
+        drop(base);
+        drop(pipeline);
+        drop(tier);
+    }
 }
 
 impl Model for Cluster {

@@ -56,7 +56,7 @@ impl Ticket {
 /// Each version passes them in turn: the sequencer gives it to a request, each resolver answers
 /// for it, each log appends it, and then it is reported. All requests are kept, until `forget` drops
 /// those of which no role asks again.
-#[derive(Debug, Drop)]
+#[derive(Debug)]
 pub struct Pipeline {
     window: u64,
     start: u64,
@@ -65,6 +65,25 @@ pub struct Pipeline {
     resolvers: Vec<Resolver>,
     logs: Vec<Log>,
     reported: usize,
+}
+
+// Written out, so that no proof of a caller has to take its parts apart where one is dropped.
+impl Drop for Pipeline {
+    fn drop(self) {
+        let Pipeline {
+            window: _,
+            start: _,
+            splits,
+            requests,
+            resolvers,
+            logs,
+            reported: _,
+        } = self;
+        drop(splits);
+        drop(requests);
+        drop(resolvers);
+        drop(logs);
+    }
 }
 
 impl Model for Pipeline {

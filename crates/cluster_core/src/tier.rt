@@ -25,12 +25,26 @@ use std::marker::Model;
 
 /// The storage servers, in key order: each tells the map of its keys at its last versions, as far
 /// back as the window.
-#[derive(Debug, Drop)]
+#[derive(Debug)]
 pub struct Tier {
     alloc: Global,
     window: u64,
     splits: Splits,
     servers: Vec<Server>,
+}
+
+// Written out, so that no proof of a caller has to take its parts apart where one is dropped.
+impl Drop for Tier {
+    fn drop(self) {
+        let Tier {
+            alloc: _,
+            window: _,
+            splits,
+            servers,
+        } = self;
+        drop(splits);
+        drop(servers);
+    }
 }
 
 impl Model for Tier {

@@ -157,9 +157,16 @@ pub(crate) fn flat_tuple(elements: Vec<Element>) -> Tuple
 }
 
 /// The cells of a record, or of a key, in order.
-#[derive(Drop)]
 pub struct Cells {
     pub(crate) cells: Vec<Cell>,
+}
+
+// Written out, so that no proof of a caller has to take its parts apart where one is dropped.
+impl Drop for Cells {
+    fn drop(self) {
+        let Cells { cells } = self;
+        drop(cells);
+    }
 }
 
 impl Model for Cells {
@@ -177,6 +184,15 @@ impl Cells {
         ensures { result ≡ cells.items }
     {
         Cells { cells }
+    }
+
+    // The cells, handed back as a list.
+    #[inline(always)]
+    pub(crate) fn into_vec(self) -> Vec<Cell>
+        ensures { result.items ≡ self }
+    {
+        let Cells { cells } = self;
+        cells
     }
 
     /// The cells.

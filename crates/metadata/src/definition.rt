@@ -33,9 +33,16 @@ impl Field {
 }
 
 /// The fields of a type, in order.
-#[derive(Drop)]
 pub struct Fields {
     fields: Vec<Field>,
+}
+
+// Written out, so that no proof of a caller has to take its parts apart where one is dropped.
+impl Drop for Fields {
+    fn drop(self) {
+        let Fields { fields } = self;
+        drop(fields);
+    }
 }
 
 impl Model for Fields {
@@ -98,9 +105,16 @@ impl Fields {
 }
 
 /// Places of fields in a type, counted from 0.
-#[derive(Drop)]
 pub struct Places {
     places: Vec<usize>,
+}
+
+// Written out, so that no proof of a caller has to take its parts apart where one is dropped.
+impl Drop for Places {
+    fn drop(self) {
+        let Places { places } = self;
+        drop(places);
+    }
 }
 
 impl Model for Places {
@@ -187,9 +201,16 @@ impl TypeDefinition {
 }
 
 /// Names, in order.
-#[derive(Drop)]
 pub struct Names {
     names: Vec<Text>,
+}
+
+// Written out, so that no proof of a caller has to take its parts apart where one is dropped.
+impl Drop for Names {
+    fn drop(self) {
+        let Names { names } = self;
+        drop(names);
+    }
 }
 
 impl Model for Names {
@@ -277,10 +298,18 @@ fn copy_indexes(alloc: Global, indexes: &[IndexRequest]) -> Result<Vec<IndexRequ
 }
 
 /// A schema as it is asked for: types, added in this order, and then indexes, in theirs.
-#[derive(Drop)]
 pub struct SchemaRequest {
     types: Vec<TypeRequest>,
     indexes: Vec<IndexRequest>,
+}
+
+// Written out, so that no proof of a caller has to take its parts apart where one is dropped.
+impl Drop for SchemaRequest {
+    fn drop(self) {
+        let SchemaRequest { types, indexes } = self;
+        drop(types);
+        drop(indexes);
+    }
 }
 
 impl Model for SchemaRequest {

@@ -32,10 +32,18 @@ use tuple_codec::{Element, Text, Tuple, TupleInt, pack_int};
 
 /// A record: its type's definition, which records share, and a cell for each field, which the
 /// definition allows.
-#[derive(Drop)]
 pub struct Record {
     pub(crate) definition: Rc<TypeDefinition>,
     pub(crate) cells: Cells,
+}
+
+// Written out, so that no proof of a caller has to take its parts apart where one is dropped.
+impl Drop for Record {
+    fn drop(self) {
+        let Record { definition, cells } = self;
+        drop(definition);
+        drop(cells);
+    }
 }
 
 impl Model for Record {
@@ -250,6 +258,8 @@ impl Record {
     pub fn into_cells(self) -> Cells
         ensures { result ≡ self.cells }
     {
-        self.cells
+        let Record { definition, cells } = self;
+        drop(definition);
+        cells
     }
 }

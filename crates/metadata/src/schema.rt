@@ -102,12 +102,24 @@ fn copy_indexes(
 }
 
 /// The types of a store and its indexes, both in the order of their numbers.
-#[derive(Drop)]
 pub struct Schema {
     pub(crate) types: Vec<TypeDefinition>,
     // The number that was given to an index last. Numbers aren't given twice.
     pub(crate) last_index: u64,
     pub(crate) indexes: Vec<IndexDefinition>,
+}
+
+// Written out, so that no proof of a caller has to take its parts apart where one is dropped.
+impl Drop for Schema {
+    fn drop(self) {
+        let Schema {
+            types,
+            last_index: _,
+            indexes,
+        } = self;
+        drop(types);
+        drop(indexes);
+    }
 }
 
 impl Model for Schema {
@@ -186,7 +198,13 @@ impl Schema {
     pub(crate) fn into_types(self) -> Vec<TypeDefinition>
         ensures { result.items ≡ self.types }
     {
-        self.types
+        let Schema {
+            types,
+            last_index: _,
+            indexes,
+        } = self;
+        drop(indexes);
+        types
     }
 
     // The schema of these types and indexes.

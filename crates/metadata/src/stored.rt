@@ -40,7 +40,7 @@ impl Cells {
     fn with_nulls(self, count: usize) -> Result<Cells, AllocError>
         ensures { IfOk result (λ cells. cells ≡ self ++ replicate (count - length self) Null) }
     {
-        let mut cells = self.cells;
+        let mut cells = self.into_vec();
         for _ in cells.len()..count {
             cells.push(Cell::Null)?;
         }

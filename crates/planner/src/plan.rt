@@ -68,11 +68,24 @@ pub enum Node {
 /// How the records of a query are found: those of a type, by the steps from the last one to the
 /// first. Each plan is of the type that its query names, scans indexes over that type alone, is
 /// right for its query, and merges only steps and scans that go by primary key.
-#[derive(Drop)]
 pub struct Plan {
     pub(crate) definition: TypeDefinition,
     pub(crate) root: Node,
     pub(crate) query: Query,
+}
+
+// Written out, so that no proof of a caller has to take its parts apart where one is dropped.
+impl Drop for Plan {
+    fn drop(self) {
+        let Plan {
+            definition,
+            root,
+            query,
+        } = self;
+        drop(definition);
+        drop(root);
+        drop(query);
+    }
 }
 
 impl Model for Plan {

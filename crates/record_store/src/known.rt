@@ -35,9 +35,16 @@ pub(crate) struct Written {
 /// bytes again doesn't decode them.
 ///
 /// It changes no answer. One may be kept beside any stores and transactions.
-#[derive(Drop)]
 pub struct KnownSchema {
     pub(crate) written: Option<Written>,
+}
+
+// Written out, so that no proof of a caller has to take its parts apart where one is dropped.
+impl Drop for KnownSchema {
+    fn drop(self) {
+        let KnownSchema { written } = self;
+        drop(written);
+    }
 }
 
 // Whether two lists of pairs are the same.

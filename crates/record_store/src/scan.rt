@@ -18,9 +18,16 @@ use tuple_codec::Text;
 use txn::{Snapshot, Transaction};
 
 /// Records, in order.
-#[derive(Drop)]
 pub struct Records {
     records: Vec<Record>,
+}
+
+// Written out, so that no proof of a caller has to take its parts apart where one is dropped.
+impl Drop for Records {
+    fn drop(self) {
+        let Records { records } = self;
+        drop(records);
+    }
 }
 
 impl Model for Records {
@@ -51,7 +58,8 @@ impl Records {
     pub fn into_vec(self) -> Vec<Record>
         ensures { result.items ≡ self }
     {
-        self.records
+        let Records { records } = self;
+        records
     }
 }
 

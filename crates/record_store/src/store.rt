@@ -18,13 +18,28 @@ use tuple_codec::Text;
 /// those indexes that aren't readable, by their numbers.
 ///
 /// It is used in the transaction in which it was opened, where nothing else writes under its prefix meanwhile.
-#[derive(Drop)]
 pub struct Store {
     pub(crate) prefix: Vec<u8>,
     pub(crate) schema: Arc<Schema>,
     pub(crate) states: Vec<(u64, State)>,
     // What opening it reads.
     pub(crate) reads: OpeningReads,
+}
+
+// Written out, so that no proof of a caller has to take its parts apart where one is dropped.
+impl Drop for Store {
+    fn drop(self) {
+        let Store {
+            prefix,
+            schema,
+            states,
+            reads,
+        } = self;
+        drop(prefix);
+        drop(schema);
+        drop(states);
+        drop(reads);
+    }
 }
 
 impl Model for Store {

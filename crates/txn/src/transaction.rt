@@ -27,12 +27,27 @@ use std::marker::Model;
 /// list of mutations it keeps where the last one of each key stands, which tells most values, and
 /// what they come to in the order of the keys, each as far as its reads needed it, so that a read
 /// takes time that grows as their logarithm.
-#[derive(Debug, Drop)]
+#[derive(Debug)]
 pub struct Transaction {
     request: CommitRequest,
     size: u64,
     own: OwnWrites,
     latest: Latest,
+}
+
+// Written out, so that no proof of a caller has to take its parts apart where one is dropped.
+impl Drop for Transaction {
+    fn drop(self) {
+        let Transaction {
+            request,
+            size: _,
+            own,
+            latest,
+        } = self;
+        drop(request);
+        drop(own);
+        drop(latest);
+    }
 }
 
 impl Model for Transaction {
@@ -298,6 +313,14 @@ impl Transaction {
     pub fn into_request(self) -> CommitRequest
         ensures { result ≡ self }
     {
-        self.request
+        let Transaction {
+            request,
+            size: _,
+            own,
+            latest,
+        } = self;
+        drop(own);
+        drop(latest);
+        request
     }
 }
