@@ -12,7 +12,6 @@ use tuple_codec::Text;
 pub const CLIENTS: usize = 16;
 
 /// A command on the store, in a transaction.
-#[derive(Drop)]
 pub enum Command {
     /// Makes the store, with these types and indexes.
     Create(SchemaRequest),
@@ -49,6 +48,46 @@ pub enum Command {
     State(Text),
     /// Asks for the total of the group of these cells, of the COUNT or SUM index of this name.
     Aggregate(Text, Cells),
+}
+
+// Written out, so that no proof of a caller has to tell the cases apart where one is dropped.
+impl Drop for Command {
+    fn drop(self) {
+        match self {
+            Command::Create(request) => drop(request),
+            Command::Type(request) => drop(request),
+            Command::Field(name, field) => {
+                drop(name);
+                drop(field);
+            }
+            Command::Save(name, cells) => {
+                drop(name);
+                drop(cells);
+            }
+            Command::Load(name, cells) => {
+                drop(name);
+                drop(cells);
+            }
+            Command::Remove(name, cells) => {
+                drop(name);
+                drop(cells);
+            }
+            Command::Query(query) => drop(query),
+            Command::Plan(query) => drop(query),
+            Command::Execute(plan) => drop(plan),
+            Command::Index(request) => drop(request),
+            Command::Drop(name) => drop(name),
+            Command::Disable(name) => drop(name),
+            Command::WriteOnly(name) => drop(name),
+            Command::Readable(name) => drop(name),
+            Command::Build(name, _) => drop(name),
+            Command::State(name) => drop(name),
+            Command::Aggregate(name, cells) => {
+                drop(name);
+                drop(cells);
+            }
+        }
+    }
 }
 
 impl Command {
