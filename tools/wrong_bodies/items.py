@@ -12,6 +12,8 @@ HEAD = re.compile(
 HINT = re.compile(r"#!?\[(?:tactic|cycle|cfg)\b[^\]]*\]")
 # derivations that say nothing of a value: without them a text isn't Rattle, but no more is proved
 UNSEEN = re.compile(r"\b(?:Drop|Debug)\b,? ?")
+# what is left of a list of derivations without them
+LEFT_OPEN, LEFT_EMPTY = re.compile(r",\s*\)\]"), re.compile(r"#\[derive\(\)\]\n?")
 # how a model sees fields, and what is true of them
 INSIDE = ("view", "invariant")
 
@@ -51,6 +53,11 @@ def spoken(text, cuts=()):
         at = max(at, end)
     lines = "".join([*kept, text[at:]]).split("\n")
     return "\n".join(line.strip() for line in lines if line.strip())
+
+
+def without_unseen(text):
+    """A type's text without the derivations that say nothing of a value."""
+    return LEFT_EMPTY.sub("", LEFT_OPEN.sub(")]", UNSEEN.sub("", text)))
 
 
 def end_of_statement(plain, at):
@@ -122,7 +129,7 @@ def items_in(file, text):
         elif kind in ("struct", "enum"):
             fields = spoken(text[opens:end])
             is_open = kind == "enum" or opens == end or bool(re.search(r"^pub ", fields, re.M))
-            told = UNSEEN.sub("", spoken(text[begin:end if is_open else opens]))
+            told = without_unseen(spoken(text[begin:end if is_open else opens]))
             found.append(Item(file, kind, head[3], told, is_public, "", "" if is_open else fields))
         elif kind not in ("use", "ghost use", "mod"):
             found.append(Item(file, kind, head[3] or "", spoken(text[begin:end]), is_public))

@@ -70,6 +70,7 @@ class Recording(unittest.TestCase):
                 (told_file, "impl", "pub const TWO: u64 = 2;\n\nimpl", low),
                 (types, "pub number: u64", "pub number: u32", open_to_high),
                 (types, "#[derive(Drop)]\npub struct Seen", "#[derive(Debug, Drop)]\npub struct Seen", low),
+                (types, "#[derive(Drop)]\npub struct Seen", "pub struct Seen", low),
                 (types, "    count: u64", "    count: u32", low),
                 (types, "    count: u64", "    pub count: u64", open_to_high),
                 (types, "m.count }", "m.count + 1 }", low),
