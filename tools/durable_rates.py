@@ -9,7 +9,7 @@ commit is on the disk then too. They run in turn, in rounds over new databases i
 counts, as the time of a sync changes from minute to minute; the quotient is the median of those of the rounds. Before
 each round so many syncs of 300 appended bytes are timed. Prints a table in Markdown. SQLite's shell is `sqlite3`.
 
-With a built `bench_kept` the commits of clients on threads of one process are compared too, by 1 and by 8 of them,
+With a built `bench_threads` the commits of clients on threads of one process are compared too, by 1 and by 8 of them,
 together, where those that come together share a sync, and one at a time. SQLite's clients are threads of Python, each
 with a connection of its own, that wait for one another in SQLite, or for a lock around each transaction: the faster of
 both counts, beside the program's commits together.
@@ -91,11 +91,11 @@ def round_of(program, folder, commits):
 
 
 def kept_rate(program, way, folder, clients, commits):
-    """Commits a second of clients on threads, by what `bench_kept` prints."""
+    """Commits a second of clients on threads, by what `bench_threads kept` prints."""
     file = os.path.join(folder, "kept")
     with contextlib.suppress(FileNotFoundError):
         os.remove(file)
-    words = [program, way, file, str(clients), str(commits)]
+    words = [program, "kept", way, file, str(clients), str(commits)]
     said = TOLD.search(subprocess.run(words, stdout=subprocess.PIPE, text=True, check=True).stdout)
     return int(said[1]) / int(said[2]) * 1_000_000
 
@@ -147,7 +147,7 @@ def row(work, own, sqlite, *others):
 def options_given():
     parser = argparse.ArgumentParser(description=__doc__, formatter_class=argparse.RawDescriptionHelpFormatter)
     parser.add_argument("program", help="a built recordctl")
-    parser.add_argument("--kept", help="a built bench_kept, for commits on threads")
+    parser.add_argument("--kept", help="a built bench_threads, for commits on threads")
     parser.add_argument("--commits", type=int, default=500, help="how many in a round")
     parser.add_argument("--rounds", type=int, default=9)
     parser.add_argument("--folder", default=".", help="on whose disk the databases are made; else this one")

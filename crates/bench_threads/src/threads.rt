@@ -1,8 +1,8 @@
 // Clients of the running database on threads: loads beside a writer, and commits. Called by `main`
 // for `bench_threads loads`, `bench_threads commits` and `bench_threads steady`, and by `database`,
 // which opens one.
-use crate::commands::{create, load, save};
-use cluster_core::{Config, Splits};
+use crate::clients::{Job, config_of, jobs, made};
+use crate::commands::{load, save};
 use runtime::{Client, CommandError, CommitError, Done, End, Waits, begin, open};
 use schedule::Reply;
 use std::alloc::Global;
@@ -34,22 +34,42 @@ const WRITERS: [u32; 2] = [1, 4];
 // How many versions the database goes back.
 const WINDOW: u64 = 1_000;
 
+// What the clients do: so many save, each so many records of its own in a transaction, and the
+// others load. With a number of commits each makes so many.
+#[derive(Clone, Copy)]
+struct Plan {
+    writers: u32,
+    count: u32,
+    commits: u32,
+}
+
 // What a client does over and over.
-#[derive(Drop)]
+#[derive(Clone, Copy)]
 enum Work {
     // Loads records.
     Loads,
     // Saves so many records in a transaction, from the one of this number on.
     Saves { first: u32, count: u32 },
-    // Saves a record in each of so many transactions: the share of one of four clients, over and over.
+    // Saves a record in each of so many transactions: the share of one of four clients, over and
+    // over.
     Steady { first: u32, commits: u32 },
 }
 
-// What a thread does.
-#[derive(Drop)]
-struct Job<E: End> {
-    client: Client<E>,
-    work: Work,
+// What the client at this place does.
+fn work_of(plan: Plan, place: u32) -> Work {
+    if plan.commits > 0 {
+        Work::Steady {
+            first: place.wrapping_mul(SHARE),
+            commits: plan.commits,
+        }
+    } else if place < plan.writers {
+        Work::Saves {
+            first: place.wrapping_mul(RECORDS),
+            count: plan.count,
+        }
+    } else {
+        Work::Loads
+    }
 }
 
 // The number of a record, which goes through all of them in a scattered order.
@@ -98,41 +118,58 @@ fn saves<E: End, R: Wait>(
 }
 
 // One transaction of the work.
-fn turn<E: End, R: Wait>(rt: &R, alloc: Global, job: &mut Job<E>, number: u32) -> Option<u32> {
-    match &job.work {
-        Work::Loads => loads(alloc, &mut job.client, number),
+fn turn<E: End, R: Wait>(
+    rt: &R,
+    alloc: Global,
+    client: &mut Client<E>,
+    work: Work,
+    number: u32,
+) -> Option<u32> {
+    match work {
+        Work::Loads => loads(alloc, client, number),
         Work::Saves { first, count } => {
-            let start = first.wrapping_add(number.wrapping_mul(*count) % RECORDS);
-            saves(rt, alloc, &mut job.client, start, *count)
+            let start = first.wrapping_add(number.wrapping_mul(count) % RECORDS);
+            saves(rt, alloc, client, start, count)
         }
         Work::Steady { first, commits: _ } => {
             let start = first.wrapping_add(number % SHARE);
-            saves(rt, alloc, &mut job.client, start, 1)
+            saves(rt, alloc, client, start, 1)
         }
     }
 }
 
 // Whether the work is over, of which so many turns are done.
-fn is_over<R: Clock>(rt: &R, work: &Work, begun: &Instant, turns: u32) -> Option<bool> {
+fn is_over<R: Clock>(rt: &R, work: Work, begun: &Instant, turns: u32) -> Option<bool> {
     match work {
-        Work::Steady { first: _, commits } => Some(turns >= *commits),
+        Work::Steady { first: _, commits } => Some(turns >= commits),
         _ => Some(begun.elapsed(rt).ok()?.as_millis() >= SPAN),
     }
 }
 
 // Works until it is over, and answers how many loads or saves were done: none where one failed.
-fn worked<E: End, R: Wait + Clock>(rt: &R, alloc: Global, job: Job<E>) -> Option<u64> {
-    let mut job = job;
+fn work_done<E: End, R: Wait + Clock>(
+    rt: &R,
+    alloc: Global,
+    client: &mut Client<E>,
+    work: Work,
+) -> Option<u64> {
     let begun = Instant::now(rt).ok()?;
     let mut done: u64 = 0;
     for number in 0..u32::MAX {
-        let count = turn(rt, alloc, &mut job, number)?;
+        let count = turn(rt, alloc, client, work, number)?;
         done = done.wrapping_add(u64::from(count));
-        if is_over(rt, &job.work, &begun, number.wrapping_add(1))? {
+        if is_over(rt, work, &begun, number.wrapping_add(1))? {
             break;
         }
     }
     Some(done)
+}
+
+// The same of the client of a job, at its place.
+fn worked<E: End, R: Wait + Clock>(rt: &R, alloc: Global, job: Job<E>, plan: Plan) -> Option<u64> {
+    let mut job = job;
+    let work = work_of(plan, job.place);
+    work_done(rt, alloc, &mut job.client, work)
 }
 
 // Makes the store and so many records.
@@ -142,9 +179,7 @@ fn filled<E: End, R: Wait>(
     client: &mut Client<E>,
     records: u32,
 ) -> Option<()> {
-    let mut tx = begin(client).ok()?;
-    tx.call(&create(alloc).ok()?).ok()?;
-    tx.commit(rt).ok()?;
+    made(rt, alloc, client)?;
     for number in 0..records / COMMANDS {
         if saves(rt, alloc, client, number.wrapping_mul(COMMANDS), COMMANDS)? < COMMANDS {
             return None;
@@ -163,46 +198,11 @@ pub fn opened<E: End, R: Wait>(
     window: u64,
     records: u32,
 ) -> Option<Vec<Client<E>>> {
-    let config = Config {
-        resolver_splits: Splits::new(Vec::new(alloc)),
-        storage_splits: Splits::new(Vec::new(alloc)),
-        logs: 1,
-        window,
-        start: 0,
-        places: u64::from(places),
-    };
-    let mut clients = open(rt, alloc, end, &config).ok()?;
+    let mut clients = open(rt, alloc, end, &config_of(alloc, u64::from(places), window)).ok()?;
     let mut client = clients.pop()?;
     filled(rt, alloc, &mut client, records)?;
     clients.push(client).ok()?;
     Some(clients)
-}
-
-// What each client does: so many save, each records of its own, and the others load. With a number of
-// commits each makes so many.
-fn jobs<E: End>(
-    alloc: Global,
-    clients: Vec<Client<E>>,
-    writers: u32,
-    count: u32,
-    commits: u32,
-) -> Option<Vec<Job<E>>> {
-    let mut jobs = Vec::new(alloc);
-    let mut place: u32 = 0;
-    for client in clients {
-        let work = if commits > 0 {
-            let first = place.wrapping_mul(SHARE);
-            Work::Steady { first, commits }
-        } else if place < writers {
-            let first = place.wrapping_mul(RECORDS);
-            Work::Saves { first, count }
-        } else {
-            Work::Loads
-        };
-        jobs.push(Job { client, work }).ok()?;
-        place = place.wrapping_add(1);
-    }
-    Some(jobs)
 }
 
 // Has the clients work, each on a thread of its own, and answers how many loads or saves each did.
@@ -210,22 +210,21 @@ fn work_each<E: End + Send, R: Threads + Wait + Clock + Sync>(
     rt: &R,
     alloc: Global,
     jobs: Vec<Job<E>>,
+    plan: Plan,
 ) -> Option<Vec<Option<u64>>> {
-    thread::map_vec(rt, jobs, &|job| worked(rt, alloc, job)).ok()
+    thread::map_vec(rt, jobs, &|job| worked(rt, alloc, job, plan)).ok()
 }
 
-// How many loads or saves each of the clients does, those that save first.
+// How many loads or saves each of the clients does, those that save first, beside so many others.
 fn counts<R: Threads + Wait + Clock + Sync>(
     rt: &R,
     alloc: Global,
-    writers: u32,
+    plan: Plan,
     readers: u32,
-    count: u32,
-    commits: u32,
 ) -> Option<Vec<Option<u64>>> {
-    let places = writers.wrapping_add(readers);
+    let places = plan.writers.wrapping_add(readers);
     let clients = opened(rt, alloc, Waits { rt }, places, WINDOW, RECORDS)?;
-    work_each(rt, alloc, jobs(alloc, clients, writers, count, commits)?)
+    work_each(rt, alloc, jobs(alloc, clients)?, plan)
 }
 
 // How many are done a second.
@@ -248,7 +247,12 @@ fn rates<R: Threads + Wait + Clock + Sync>(
     readers: u32,
     count: u32,
 ) -> io::Result<(u64, u64)> {
-    let Some(counts) = counts(rt, alloc, writers, readers, count, 0) else {
+    let plan = Plan {
+        writers,
+        count,
+        commits: 0,
+    };
+    let Some(counts) = counts(rt, alloc, plan, readers) else {
         return Err(io::Error::from(ErrorKind::OutOfMemory));
     };
     let Some((saves, loads)) = counts.as_slice().split_at_checked(writers as usize) else {
@@ -281,15 +285,20 @@ pub fn measure_commits<R: Threads + Wait + Clock + Print + Sync>(
     Ok(())
 }
 
-/// Has four clients make so many commits of one save over 10,000 keys, and prints how many they made,
-/// and in how many milliseconds.
+/// Has four clients make so many commits of one save over 10,000 keys, and prints how many they
+/// made, and in how many milliseconds.
 pub fn measure_steady<R: Threads + Wait + Clock + Print + Sync>(
     rt: &R,
     alloc: Global,
     commits: u32,
 ) -> io::Result<()> {
     let begun = Instant::now(rt)?;
-    let Some(counts) = counts(rt, alloc, STEADY, 0, 1, commits / STEADY) else {
+    let plan = Plan {
+        writers: STEADY,
+        count: 1,
+        commits: commits / STEADY,
+    };
+    let Some(counts) = counts(rt, alloc, plan, 0) else {
         return Err(io::Error::from(ErrorKind::OutOfMemory));
     };
     let made = rate(counts.as_slice())?.wrapping_mul(2);

@@ -1,8 +1,8 @@
 use denote.Param.{param}
 use denote.Param.Send.{sendable}
 use Rattle.std.proofs.Crossing.{crosses}
-use Rattle.bench_kept.proofs.Jobs.{job_send}
-use Rattle.bench_kept.proofs.threads.counted.Goals as goal
+use Rattle.bench_threads.proofs.Jobs.{job_send}
+use Rattle.bench_threads.proofs.kept_commits.counted.Goals as goal
 
 pub map_vec-requires-send-J : goal.map_vec-requires-send-J
 map_vec-requires-send-J g c κs within =

@@ -1,5 +1,5 @@
 // A database of one thread over two files: how long its opening takes, by its log and from a
-// checkpoint. Called by `main`.
+// checkpoint. Called by `kept_words` for `bench_threads kept open`.
 use crate::commands::{create_indexed, save};
 use command_log::{Change, Changes};
 use durable::{Checkpointed, Request, open_two};

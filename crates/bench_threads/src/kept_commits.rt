@@ -1,6 +1,7 @@
-// Clients on threads, whose commits are kept in a file. Called by `main`.
-use crate::commands::{create, save};
-use cluster_core::{Config, Splits};
+// Clients on threads, whose commits are kept in a file. Called by `kept_words` for `bench_threads
+// kept together`, `bench_threads kept alone` and `bench_threads kept told`.
+use crate::clients::{Job, config_of, jobs, made};
+use crate::commands::save;
 use commit_log::{DeviceLog, begin_log};
 use journal_file::FileDevice;
 use runtime::{Client, Done, End, begin, open_kept};
@@ -12,6 +13,9 @@ use std::sync::{Mutex, Wait};
 use std::thread::Threads;
 use std::time::Instant;
 use std::{io, thread};
+
+// How many versions the database goes back.
+const WINDOW: u64 = 1_000;
 
 /// How commits are made.
 #[derive(Clone, Copy, PartialEq, Eq)]
@@ -30,14 +34,6 @@ pub struct Asked {
     pub clients: u64,
     pub commits: u32,
     pub way: Way,
-}
-
-// What a thread does: so many commits.
-#[derive(Drop)]
-struct Job<E: End> {
-    client: Client<E>,
-    place: u32,
-    commits: u32,
 }
 
 // Commits a transaction of one save, and says under which number, where it is told to be committed.
@@ -59,18 +55,19 @@ fn commit_one<E: End, R: Wait>(
     }
 }
 
-// Makes the commits of a job, and says how many were told to be committed.
+// Makes so many commits, and says how many were told to be committed.
 fn worked<E: End, R: Wait + Print>(
     rt: &R,
     alloc: Global,
     job: Job<E>,
+    commits: u32,
     way: Way,
     turn: &Mutex<()>,
 ) -> u64 {
     let mut job = job;
     let mut made: u64 = 0;
     let turn = if way == Way::Alone { Some(turn) } else { None };
-    for one in 0..job.commits {
+    for one in 0..commits {
         let key = i64::from(job.place.wrapping_mul(1_000_000).wrapping_add(one));
         if let Some(number) = commit_one(rt, alloc, &mut job.client, key, turn) {
             made = made.wrapping_add(1);
@@ -83,30 +80,17 @@ fn worked<E: End, R: Wait + Print>(
     made
 }
 
-// The jobs of clients.
-fn jobs<E: End>(alloc: Global, clients: Vec<Client<E>>, commits: u32) -> Option<Vec<Job<E>>> {
-    let mut jobs = Vec::new(alloc);
-    let mut place: u32 = 0;
-    for client in clients {
-        jobs.push(Job {
-            client,
-            place,
-            commits,
-        })
-        .ok()?;
-        place = place.wrapping_add(1);
-    }
-    Some(jobs)
-}
-
-// Makes the store.
-fn made<E: End, R: Wait>(rt: &R, alloc: Global, client: &mut Client<E>) -> Option<()> {
-    let mut tx = begin(client).ok()?;
-    tx.call(&create(alloc).ok()?).ok()?;
-    match tx.commit(rt) {
-        Ok(Done::Committed { .. }) => Some(()),
-        _ => None,
-    }
+// These clients, the last of which has made the store.
+fn with_store<E: End, R: Wait>(
+    rt: &R,
+    alloc: Global,
+    clients: Vec<Client<E>>,
+) -> Option<Vec<Client<E>>> {
+    let mut clients = clients;
+    let mut client = clients.pop()?;
+    made(rt, alloc, &mut client)?;
+    clients.push(client).ok()?;
+    Some(clients)
 }
 
 // The clients of a new database over a file, whose store is made.
@@ -118,23 +102,13 @@ fn opened<'a, R: Wait + Files<File = File>>(
 ) -> Option<Vec<Client<DeviceLog<FileDevice, &'a R>>>> {
     let device = FileDevice::open(rt, alloc, path).ok()?;
     let log = begin_log(rt, alloc, device).ok()?;
-    let config = Config {
-        resolver_splits: Splits::new(Vec::new(alloc)),
-        storage_splits: Splits::new(Vec::new(alloc)),
-        logs: 1,
-        window: 1_000,
-        start: 0,
-        places: clients,
-    };
-    let mut clients = open_kept(rt, alloc, log, &config).ok()?;
-    let mut client = clients.pop()?;
-    made(rt, alloc, &mut client)?;
-    clients.push(client).ok()?;
-    Some(clients)
+    let config = config_of(alloc, clients, WINDOW);
+    let clients = open_kept(rt, alloc, log, &config).ok()?;
+    with_store(rt, alloc, clients)
 }
 
-// Has the clients make their commits, each on a thread of its own, and says how many were told to be
-// committed.
+// Has the clients make their commits, each on a thread of its own, and says how many were told to
+// be committed.
 fn counted<E: End + Send, R: Threads + Wait + Print + Sync>(
     rt: &R,
     alloc: Global,
@@ -143,10 +117,10 @@ fn counted<E: End + Send, R: Threads + Wait + Print + Sync>(
 ) -> Option<u64> {
     let clients_asked = u32::try_from(asked.clients).ok()?;
     let each = asked.commits / clients_asked.max(1);
-    let jobs = jobs(alloc, clients, each)?;
+    let jobs = jobs(alloc, clients)?;
     let turn = Mutex::new(());
     let way = asked.way;
-    let counts = thread::map_vec(rt, jobs, &|job| worked(rt, alloc, job, way, &turn)).ok()?;
+    let counts = thread::map_vec(rt, jobs, &|job| worked(rt, alloc, job, each, way, &turn)).ok()?;
     let mut all: u64 = 0;
     for count in &counts {
         all = all.wrapping_add(*count);
