@@ -14,11 +14,19 @@ use std::alloc::{AllocError, Global};
 
 /// A schedule whose commits are in a log on a device. What a step commits is on the disk before the
 /// step is answered.
-#[derive(Drop)]
 pub struct LoggedSchedule<D: Device> {
     followed: Followed,
     journal: Journal<D>,
     ghost journal_open: { takes_entries journal ≡ true },
+}
+
+// Written out, so that no proof of a caller has to take its parts apart where one is dropped.
+impl<D: Device + Drop> Drop for LoggedSchedule<D> {
+    fn drop(self) {
+        let LoggedSchedule { followed, journal } = self;
+        drop(followed);
+        drop(journal);
+    }
 }
 
 // The bytes of entries, in order.

@@ -37,7 +37,6 @@ use std::sync::{Arc, Wait};
 
 /// A client, for one thread. It has one open transaction at most, and keeps its store open from one
 /// command to the next.
-#[derive(Drop)]
 pub struct Client<E: End> {
     alloc: Global,
     lock: Arc<CommitLock<LockedState<E>>>,
@@ -48,6 +47,29 @@ pub struct Client<E: End> {
     last: u64,
     begun: Option<OpenTransaction>,
     known: Known,
+}
+
+// Written out, so that no proof of a caller has to take its parts apart where one is dropped.
+impl<E: End> Drop for Client<E> {
+    fn drop(self) {
+        let Client {
+            alloc: _,
+            lock,
+            key,
+            reader,
+            me,
+            number: _,
+            last: _,
+            begun,
+            known,
+        } = self;
+        drop(lock);
+        drop(key);
+        drop(reader);
+        drop(me);
+        drop(begun);
+        drop(known);
+    }
 }
 
 impl<E: End> Model for Client<E> {

@@ -12,10 +12,18 @@ use std::marker::Model;
 pub const KEPT_OUTCOMES: u64 = 128;
 
 /// What became of the last submissions of each client. It takes no memory once it is made.
-#[derive(Drop)]
 pub struct RecentOutcomes {
     counts: Vec<u64>,
     versions: Vec<u64>,
+}
+
+// Written out, so that no proof of a caller has to take its parts apart where one is dropped.
+impl Drop for RecentOutcomes {
+    fn drop(self) {
+        let RecentOutcomes { counts, versions } = self;
+        drop(counts);
+        drop(versions);
+    }
 }
 
 impl Model for RecentOutcomes {

@@ -17,11 +17,23 @@ use std::mem::replace;
 
 /// What a transaction does: the store that it works in, and the commands that it performed. Of
 /// these no bytes are kept, but of what they change where a log is to have it.
-#[derive(Drop)]
 pub struct Trace {
     pub(crate) store: StoreNumber,
     attempts: Attempts,
     changes: Option<Changes>,
+}
+
+// Written out, so that no proof of a caller has to take its parts apart where one is dropped.
+impl Drop for Trace {
+    fn drop(self) {
+        let Trace {
+            store: _,
+            attempts,
+            changes,
+        } = self;
+        drop(attempts);
+        drop(changes);
+    }
 }
 
 impl Model for Trace {

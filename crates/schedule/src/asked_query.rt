@@ -9,9 +9,16 @@ use std::marker::Model;
 use std::rc::Rc;
 
 /// The query of a command: what it asks for.
-#[derive(Drop)]
 pub struct AskedQuery {
     query: Rc<Query>,
+}
+
+// Written out, so that no proof of a caller has to take its parts apart where one is dropped.
+impl Drop for AskedQuery {
+    fn drop(self) {
+        let AskedQuery { query } = self;
+        drop(query);
+    }
 }
 
 impl Model for AskedQuery {

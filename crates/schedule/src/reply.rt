@@ -9,9 +9,16 @@ use metadata::{Cells, State};
 use std::marker::Model;
 
 /// The cells of records, in order.
-#[derive(Drop)]
 pub struct Rows {
     rows: Vec<Cells>,
+}
+
+// Written out, so that no proof of a caller has to take its parts apart where one is dropped.
+impl Drop for Rows {
+    fn drop(self) {
+        let Rows { rows } = self;
+        drop(rows);
+    }
 }
 
 impl Model for Rows {
@@ -61,9 +68,16 @@ pub enum Report {
 }
 
 /// Reports, in version order.
-#[derive(Drop)]
 pub struct Reports {
     reports: Vec<Report>,
+}
+
+// Written out, so that no proof of a caller has to take its parts apart where one is dropped.
+impl Drop for Reports {
+    fn drop(self) {
+        let Reports { reports } = self;
+        drop(reports);
+    }
 }
 
 impl Model for Reports {

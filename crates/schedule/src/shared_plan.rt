@@ -8,9 +8,16 @@ use std::marker::Model;
 use std::rc::Rc;
 
 /// A plan that a reply shares with the client that keeps it.
-#[derive(Drop)]
 pub struct SharedPlan {
     plan: Rc<Plan>,
+}
+
+// Written out, so that no proof of a caller has to take its parts apart where one is dropped.
+impl Drop for SharedPlan {
+    fn drop(self) {
+        let SharedPlan { plan } = self;
+        drop(plan);
+    }
 }
 
 impl Model for SharedPlan {
