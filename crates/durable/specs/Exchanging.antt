@@ -26,11 +26,11 @@ pub record IsCheckpointOf (generation : ℕ) (image : Image) (batch : List (List
   pub few : length (all_pairs image.map) < 2 ^ 64
   pub keys : All (λ pair. length pair.0 < 2 ^ 64) (all_pairs image.map)
 
--- a file has no room for these byte strings
+-- a file that was emptied has no room for these byte strings
 abbrev pub HasNoRoomFor : List ℕ → List (List ℕ) → Type 0
-HasNoRoomFor file batch = 2 ^ 63 ≤ length file + length (blocks batch)
+HasNoRoomFor file batch = (length file ≡ 1) × (2 ^ 63 ≤ length file + length (blocks batch))
 
--- a file has no room for a checkpoint of this generation, with all pairs of a database
+-- a file that was emptied has no room for a checkpoint of this generation, with all pairs of a database
 abbrev pub HasNoRoomForAll : List ℕ → ℕ → Image → Type 0
 HasNoRoomForAll file generation image =
     HasNoRoomFor file (checkpoint_bytes generation image.version (all_pairs image.map))

@@ -206,9 +206,10 @@ impl<D: Device> Journal<D> {
         Ok(())
     }
 
-    /// Drops all entries. At `Ok` each crash leaves a file that has none.
+    /// Drops all entries. At `Ok` each crash leaves a file that has none, and the file has one byte.
     pub fn clear(&mut self) -> Result<(), AppendError>
         ensures cleared { OnOk result (StandsFor (D.seen (device_of self.new)) []) }
+        ensures short { OnOk result (length (D.seen (device_of self.new)) ≡ 1) }
         ensures durable { OnOk result
             (Only (D.seen (device_of self.new)) (D.may_leave (device_of self.new))) }
 

@@ -39,5 +39,5 @@ returns-clause-unwritten g c =
     let d = g.D.Device in
     unappended d.seen d.may_leave d.faults d.wants_memory (bytes_of_each c.args.batch.now) c.append.result (device_of c.args.journal.now) c.clear.new.self c.append.new.self
     (record { open_still = c.in_ok-clear.ensures.ok; none = c.in_ok-clear.ensures.cleared; durable = c.in_ok-clear.ensures.durable })
-    c.append.ensures.memory c.append.ensures.full (c.append.ensures.no_room c.in_ok-clear.ensures.ok) (c.append.ensures.was_open c.in_ok-clear.ensures.ok)
+    c.append.ensures.memory c.append.ensures.full (λ is. (c.in_ok-clear.ensures.short, c.append.ensures.no_room c.in_ok-clear.ensures.ok is)) (c.append.ensures.was_open c.in_ok-clear.ensures.ok)
     (λ is. omega (arith, c.append.ensures.failed is, c.clear.ensures.later)) c.append.ensures.fed
