@@ -206,7 +206,7 @@ impl<D: Device> Journal<D> {
         Ok(())
     }
 
-    /// Drops all entries. At `Ok` each crash leaves a file that has none, and the file has one byte.
+    /// Drops all entries. At `Ok` each crash leaves a file that has none; it has one byte then.
     pub fn clear(&mut self) -> Result<(), AppendError>
         ensures cleared { OnOk result (StandsFor (D.seen (device_of self.new)) []) }
         ensures short { OnOk result (length (D.seen (device_of self.new)) ≡ 1) }

@@ -30,23 +30,11 @@ pub struct Done {
 }
 
 /// A database in memory, for one thread: its pairs, and the version of the last transaction in it.
+#[derive(Drop)]
 pub struct Image {
     map: KvMap,
     version: u64,
     known: KnownSchema,
-}
-
-// Written out, so that no proof of a caller has to take its parts apart where one is dropped.
-impl Drop for Image {
-    fn drop(self) {
-        let Image {
-            map,
-            version: _,
-            known,
-        } = self;
-        drop(map);
-        drop(known);
-    }
 }
 
 impl Model for Image {
