@@ -25,7 +25,7 @@ import threading
 import time
 
 PROGRAMS = ["crates/recordctl/out/recordctl", "crates/recordctl/out/recordctl.by-rattle"]
-FAILING = [f"crates/{it}/out/{it}{end}" for it in ("test_memory", "test_commits", "test_replies")
+FAILING = [f"crates/{it}/out/{it}{end}" for it in ("test_memory", "test_commits")
            for end in ("", ".by-rattle")]
 TESTED_TOOLS = ("wrong_bodies", "house_rules", "quick_build", "model")
 FOLDERS = [f"crates/example_threads/out/example_threads{end}" for end in ("", ".by-rattle")] + PROGRAMS

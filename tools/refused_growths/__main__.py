@@ -5,10 +5,10 @@ Each line of test_memory and of test_commits but the last tells of something for
 of them: it is done again then, 'again ' stands before the line, and all else is as it is when none fails. Where an
 allocation fails elsewhere the program may stop. A program 'recordctl' runs the scripts of cases/memory.steps, and has
 a session of its shell, in memory and over a new folder, and prints the log of one: it must print what it prints when
-none fails, or the first lines of that, or none, and 'out of memory'. A program 'test_replies'
-is run with one allocation in so many failing, and must print what it prints when none fails; in one run at least it
-must tell that replies were lost. The last line is 'N passed, M failed', where each allocation counts, and each run of
-'test_replies'; where there is no C compiler ('cc') one failure is counted.
+none fails, or the first lines of that, or none, and 'out of memory'. 'test_commits replies'
+is run with one allocation in so many failing, and must print that the sum is exact; in one run at least it must tell
+that replies were lost. The last line is 'N passed, M failed', where each allocation counts, and each run of
+'test_commits replies'; where there is no C compiler ('cc') one failure is counted.
 """
 import os
 import subprocess
@@ -30,6 +30,7 @@ COUNT_BYTES = 8
 # one allocation in so many fails, after the first tenth of all, in which the database is opened
 PERIODS = (601, 701, 769, 853, 997, 1123, 1291, 1543, 1777, 2029, 2503, 3079, 3547, 4099, 5003, 6007)
 LOST = "replies were lost\n"
+REPLIES, EXACT = ("replies",), "the sum is exact\n"
 
 
 @dataclass
@@ -137,11 +138,11 @@ def tried(trial, library):
 def lost(trial, library):
     """How many runs passed and failed in which replies are lost."""
     first = run(trial, library, 0)
-    if first.status or not first.count:
+    if (first.status, first.output) != (0, trial.wanted) or not first.count:
         print(f"{trial}: status {first.status} and {first.count} allocations where none fails")
         return 0, 1
     runs = [run(trial, library, first.count // 10, period) for period in PERIODS]
-    wrong = [(period, it) for period, it in zip(PERIODS, runs) if (it.status, it.output) != (0, first.output)]
+    wrong = [(period, it) for period, it in zip(PERIODS, runs) if (it.status, it.output) != (0, trial.wanted)]
     for period, it in wrong:
         print(f"{trial}: one allocation in {period}: status {it.status}, {it.output!r} and {it.errors!r}")
     told = sum(it.errors == LOST for it in runs)
@@ -152,6 +153,8 @@ def lost(trial, library):
 def trials_of(program, folder):
     """What a program is given, one after another."""
     program = os.path.abspath(program)
+    if os.path.basename(program).startswith("test_commits"):
+        return [Trial(program), Trial(program, REPLIES, wanted=EXACT, shows="lost replies")]
     if not os.path.basename(program).startswith("recordctl"):
         return [Trial(program)]
     with open(os.path.join("cases", SCRIPTS), encoding="utf-8") as file:
@@ -166,7 +169,7 @@ def trials_of(program, folder):
 
 def judge_of(trial):
     """Which runs of a program are judged."""
-    return lost if os.path.basename(trial.program).startswith("test_replies") else tried
+    return lost if trial.words == REPLIES else tried
 
 
 def main():

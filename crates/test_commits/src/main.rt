@@ -1,9 +1,13 @@
 //! A commit of a running database, and the next one by the same client or by another; the commits
 //! of a worker; and one of a database of one thread. A tool has each allocation fail in turn, and
-//! compares what is printed.
+//! compares what is printed. `test_commits replies` has two clients on threads add to one record,
+//! of whose allocations one in so many fails.
 #![tactic(auto)]
 
+mod adding;
 mod clients;
+mod counter;
+mod replies;
 mod settling;
 mod worker;
 
@@ -12,6 +16,7 @@ use cluster_core::Config;
 use runtime::{Client, End, SubmissionStatus, Waits, open};
 use settling::one_thread;
 use std::alloc::Global;
+use std::env;
 use std::sync::Wait;
 use std::test::Fail;
 use worker::{Wanting, built};
@@ -125,16 +130,26 @@ fn settled(alloc: Global) -> Result<String, Fail> {
     Ok(format!(in alloc; "{known}told on one thread\n")?)
 }
 
-fn main(rt: HostRuntime) -> Result<(), Fail> {
-    let alloc = rt.alloc();
-    let lines = alone(&rt, alloc)?;
+/// Has each of the databases do its work, and prints the lines of it.
+fn work<R: Wait + Print>(rt: &R, alloc: Global) -> Result<(), Fail> {
+    let lines = alone(rt, alloc)?;
     rt.print(lines)?;
-    let lines = beside(&rt, alloc)?;
+    let lines = beside(rt, alloc)?;
     rt.print(lines)?;
-    let lines = working(&rt, alloc)?;
+    let lines = working(rt, alloc)?;
     rt.print(lines)?;
     let lines = settled(alloc)?;
     rt.print(lines)?;
     rt.println("all stands")?;
     Ok(())
+}
+
+fn main(rt: HostRuntime) -> Result<(), Fail> {
+    let alloc = rt.alloc();
+    let words: Vec<String> = env::args(&rt)?.collect(alloc)?;
+    match words.as_slice() {
+        [_] => work(&rt, alloc),
+        [_, word] if word.as_str() == "replies" => replies::work(&rt, alloc),
+        _ => Err(Fail::from("usage: test_commits [replies]")),
+    }
 }

@@ -1,4 +1,4 @@
-// The transactions on the record that counts. Called by `adding` and `main`.
+// The transactions on the record that counts. Called by `adding` and `replies`.
 use metadata::{Cell, Cells};
 use runtime::{Client, CommandError, CommitError, Done, End, Txn, begin};
 use schedule::Step;

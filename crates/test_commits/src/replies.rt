@@ -1,14 +1,9 @@
-//! Two clients on threads add to one record, a thousand times in all. A tool has allocations fail
-//! meanwhile, so that replies are lost: whoever lost one asks what became of the submission, and
-//! adds again where it was refused. In the end the sum must be exact.
-#![tactic(auto)]
-
-mod adding;
-mod counter;
-
-use adding::{EACH, add_beside};
+// Two clients on threads add to one record, a thousand times in all. A tool has allocations fail
+// meanwhile, so that replies are lost: whoever lost one asks what became of the submission, and
+// adds again where it was refused. In the end the sum must be exact. Called by `main`.
+use crate::adding::{EACH, add_beside};
+use crate::counter::{Tried, make_store, sum};
 use cluster_core::Config;
-use counter::{Tried, make_store, sum};
 use runtime::{Client, End, Waits, open};
 use std::alloc::Global;
 use std::sync::Wait;
@@ -17,6 +12,16 @@ use std::thread::Threads;
 
 /// What the sum must be.
 const ALL: i64 = 1_000;
+
+/// The sum, which is read until it is told.
+fn found<E: End>(alloc: Global, client: &mut Client<E>) -> Option<i64> {
+    for _ in 0..EACH {
+        if let Some(total) = sum(alloc, client) {
+            return Some(total);
+        }
+    }
+    None
+}
 
 /// Makes the store, has two clients add beside each other, and compares the sum: how many replies
 /// were lost.
@@ -37,16 +42,6 @@ fn add_all<E: End + Send, R: Threads + Wait + Sync>(
     }
 }
 
-/// The sum, which is read until it is told.
-fn found<E: End>(alloc: Global, client: &mut Client<E>) -> Option<i64> {
-    for _ in 0..EACH {
-        if let Some(total) = sum(alloc, client) {
-            return Some(total);
-        }
-    }
-    None
-}
-
 /// Opens a database, and has its first two clients add.
 fn open_and_add<R: Threads + Wait + Sync>(rt: &R, alloc: Global) -> Result<u64, Fail> {
     let mut clients = open(rt, alloc, Waits { rt }, &Config::single(alloc))?;
@@ -55,9 +50,12 @@ fn open_and_add<R: Threads + Wait + Sync>(rt: &R, alloc: Global) -> Result<u64, 
     add_all(rt, alloc, one, other)
 }
 
-fn main(rt: HostRuntime) -> Result<(), Fail> {
-    let alloc = rt.alloc();
-    let lost = open_and_add(&rt, alloc)?;
+/// Prints that the sum is exact, and tells where replies were lost.
+pub(crate) fn work<R: Threads + Wait + Print + Eprint + Sync>(
+    rt: &R,
+    alloc: Global,
+) -> Result<(), Fail> {
+    let lost = open_and_add(rt, alloc)?;
     rt.println("the sum is exact")?;
     if lost > 0 {
         rt.eprintln("replies were lost")?;

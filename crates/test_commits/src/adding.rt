@@ -1,4 +1,4 @@
-// Transactions that are made once, though their replies may be lost. Called by `main`.
+// Transactions that are made once, though their replies may be lost. Called by `replies`.
 use crate::counter::{Tried, add, touch};
 use runtime::{Client, End, SubmissionStatus};
 use std::alloc::Global;
