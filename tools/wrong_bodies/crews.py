@@ -20,7 +20,8 @@ def spent(checks):
 
 class Task:
     """A piece of work: what it does, its crate, the crates whose proof it waits for, and its weight, the heaviest
-    first: proofs, then what is left to do of a crate that is begun, then other crates."""
+    first: proofs, then what is left to do of a crate that is begun, then other crates, those last whose edits are all
+    aged."""
 
     def __init__(self, weight, name, waits, work):
         self.weight, self.name, self.waits, self.work = weight, name, waits, work
@@ -99,7 +100,8 @@ class Crew:
             self.tasks.append(Task(1_000_000 * (1 + above), name, crates[name], lambda it=name: self.prove(it)))
         for name in self.edits:
             waits = [name] if name in needed else below(crates, name)
-            self.tasks.append(Task(1, name, waits, lambda it=name: self.begin(it)))
+            is_aged = all((name, it.name) in self.drawn for it in self.edits[name])
+            self.tasks.append(Task(0 if is_aged else 1, name, waits, lambda it=name: self.begin(it)))
         self.run()
         return len(self.refused), len(self.others)
 
