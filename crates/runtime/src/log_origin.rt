@@ -46,25 +46,12 @@ impl Opening<Vec<Entry>, Entry> for Found {
 
 /// What a database began with, as clauses see it, which can be copied: only the start and the
 /// window of its configuration are kept as bytes.
+#[derive(Drop)]
 pub struct LogOrigin {
     start: u64,
     window: u64,
     config: Seen<Config, u64, Still>,
     before: Seen<Entry, u64, Still>,
-}
-
-// Written out, so that no proof of a caller has to take its parts apart where one is dropped.
-impl Drop for LogOrigin {
-    fn drop(self) {
-        let LogOrigin {
-            start: _,
-            window: _,
-            config,
-            before,
-        } = self;
-        drop(config);
-        drop(before);
-    }
 }
 
 impl Model for LogOrigin {

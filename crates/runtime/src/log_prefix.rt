@@ -88,25 +88,12 @@ impl Model for LogHead {
 /// A beginning of the history of a database that was seen, which is well-formed for its configuration.
 ///
 /// Of the entries no bytes are kept, so it can be copied.
+#[derive(Drop)]
 pub struct LogPrefix {
     count: u64,
     log_origin: LogOrigin,
     kept: bool,
     seen: Seen<Entry, u64, LogRule>,
-}
-
-// Written out, so that no proof of a caller has to take its parts apart where one is dropped.
-impl Drop for LogPrefix {
-    fn drop(self) {
-        let LogPrefix {
-            count: _,
-            log_origin,
-            kept: _,
-            seen,
-        } = self;
-        drop(log_origin);
-        drop(seen);
-    }
 }
 
 impl Model for LogPrefix {
