@@ -65,3 +65,13 @@ pub rows_unchanged : (bytes ends more later : List ℕ) (kept : ArePacked bytes 
 rows_unchanged bytes ends more later kept new same ended =
     let at = subst (λ (bs : List ℕ). ArePacksOf bs ends kept.rows) (sym same) kept.are in
     same_rows more later new (record { rows = kept.rows; are = subst (λ (es : List ℕ). ArePacksOf more es kept.rows) (sym ended) at })
+
+are_none : (bytes ends : List ℕ) → bytes ≡ [] → ends ≡ [] → ArePacksOf bytes ends []
+are_none bytes ends no_bytes no_ends = record { cells = All-nil (All IsCell); packs = no_bytes; ended = no_ends }
+
+-- NONE: no bytes and no ends are those of no rows
+pub none_packed : (bytes ends : List ℕ) → bytes ≡ [] → ends ≡ [] → ArePacked bytes ends
+none_packed bytes ends no_bytes no_ends = record { rows = []; are = are_none bytes ends no_bytes no_ends }
+
+pub rows_none : (bytes ends : List ℕ) (new : ArePacked bytes ends) → bytes ≡ [] → ends ≡ [] → new.rows ≡ []
+rows_none bytes ends new no_bytes no_ends = same_rows bytes ends new (record { rows = []; are = are_none bytes ends no_bytes no_ends })

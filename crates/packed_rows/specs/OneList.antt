@@ -25,17 +25,17 @@ parted (x ∷ a) (y ∷ b) c d len same =
 -- rows with the same packs and the same ends are the same
 pub one_list : (start : ℕ) (a b : List (List Cell)) → All (All IsCell) a → All (All IsCell) b →
     packs_of a ≡ packs_of b → ends_from start a ≡ ends_from start b → a ≡ b
-one_list start [] [] as bs packs ends = refl
-one_list start [] (y ∷ ys) as bs packs ends = absurd (cc)
-one_list start (x ∷ xs) [] as bs packs ends = absurd (cc)
-one_list start (x ∷ xs) (y ∷ ys) as bs packs ends =
+one_list start [] [] mine yours packs ends = refl
+one_list start [] (y ∷ ys) mine yours packs ends = absurd (cc)
+one_list start (x ∷ xs) [] mine yours packs ends = absurd (cc)
+one_list start (x ∷ xs) (y ∷ ys) mine yours packs ends =
     let first : start + length (pack_of x) ≡ start + length (pack_of y) = cc in
     let behind : ends_from (start + length (pack_of x)) xs ≡ ends_from (start + length (pack_of y)) ys = cc in
     let both = parted (pack_of x) (pack_of y) (packs_of xs) (packs_of ys) (omega (arith, first)) packs in
     let row = one_value (pack_of x) x y
-        (record { cells = All-head (All IsCell) x xs as; has_value = refl })
-        (record { cells = All-head (All IsCell) y ys bs; has_value = both.0 }) in
-    let rest = one_list (start + length (pack_of x)) xs ys (All-tail (All IsCell) x xs as) (All-tail (All IsCell) y ys bs) both.1
+        (record { cells = All-head (All IsCell) x xs mine; has_value = refl })
+        (record { cells = All-head (All IsCell) y ys yours; has_value = both.0 }) in
+    let rest = one_list (start + length (pack_of x)) xs ys (All-tail (All IsCell) x xs mine) (All-tail (All IsCell) y ys yours) both.1
         (behind ∙ ap (λ n. ends_from n ys) (sym first)) in
     λ i. row i ∷ rest i
 
