@@ -1,5 +1,6 @@
 -- A pack behind the others, and its end, are those of one row more.
-use Rattle.std.proofs.Common.{◌≡◌, ℕ, ◌+◌, List, [], ◌∷◌, ◌++◌, length, All, refl, sym, ap, subst, ◌∙◌, append_assoc, append-nil, length-append, arith}
+use Rattle.std.proofs.Common.{◌≡◌, ℕ, ◌+◌, List, [], ◌∷◌, ◌++◌, length, Result, Ok, Err, OnOk, All, refl, sym, ap, subst, ◌∙◌, append_assoc, append-nil, length-append, arith}
+use Rattle.std.specs.Prelude.{OnErr}
 use Rattle.std.proofs.lemmas.List.Elements.{All-append, All-cons, All-nil}
 use Rattle.std.proofs.lemmas.List.Concat.{flat_map-append}
 use Rattle.metadata.specs.declared.cells.Cell.{Cell}
@@ -17,7 +18,7 @@ ends_push start [] row = refl
 ends_push start (one ∷ rows) row =
     let first = start + length (pack_of one) in
     let last : first + length (packs_of rows ++ pack_of row) ≡ start + length ((pack_of one ++ packs_of rows) ++ pack_of row) =
-        omega (arith, ap length (append_assoc (pack_of one) (packs_of rows) (pack_of row)), length-append (pack_of one) (packs_of rows ++ pack_of row)) in
+    omega (arith, ap length (append_assoc (pack_of one) (packs_of rows) (pack_of row)), length-append (pack_of one) (packs_of rows ++ pack_of row)) in
     ap (λ es. first ∷ es) (ends_push first rows row ∙ ap (λ n. ends_from first rows ++ n ∷ []) last)
 
 -- MORE: the packs and the ends with those of a row
@@ -65,6 +66,24 @@ pub rows_unchanged : (bytes ends more later : List ℕ) (kept : ArePacked bytes 
 rows_unchanged bytes ends more later kept new same ended =
     let at = subst (λ (bs : List ℕ). ArePacksOf bs ends kept.rows) (sym same) kept.are in
     same_rows more later new (record { rows = kept.rows; are = subst (λ (es : List ℕ). ArePacksOf more es kept.rows) (sym ended) at })
+
+-- KEPT: whether the call that adds a pack and its end returned `Ok` or not, they are packed
+pub kept_after : {T E : Type 0} (r : Result T E) (bytes ends more later : List ℕ) (kept : ArePacked bytes ends) (pack : List ℕ) (row : List Cell) →
+    AreStoredAs pack row → OnOk r (more ≡ bytes ++ pack) → OnOk r (later ≡ ends ++ length more ∷ []) →
+    OnErr r (more ≡ bytes) → OnErr r (later ≡ ends) → ArePacked more later
+kept_after (Ok _) bytes ends more later kept pack row are longer ended same same_ends = pushed bytes ends more later kept pack row are longer ended
+kept_after (Err _) bytes ends more later kept pack row are longer ended same same_ends = unchanged bytes ends more later kept same same_ends
+
+-- what is so is told of an error too
+pub on_err : {T E P : Type 0} (r : Result T E) → P → OnErr r P
+on_err (Ok _) so = tt
+on_err (Err _) so = so
+
+-- a list that was cleared, and then had the pack of cells appended, is the pack of the row
+pub stored_alone : (pack out cleared : List ℕ) (row : List Cell) → All IsCell row → pack ≡ out → out ≡ cleared ++ pack_of row → cleared ≡ [] →
+    AreStoredAs pack row
+stored_alone pack out cleared row cells same packed none =
+    record { cells = cells; has_value = same ∙ packed ∙ ap (λ l. l ++ pack_of row) none }
 
 are_none : (bytes ends : List ℕ) → bytes ≡ [] → ends ≡ [] → ArePacksOf bytes ends []
 are_none bytes ends no_bytes no_ends = record { cells = All-nil (All IsCell); packs = no_bytes; ended = no_ends }

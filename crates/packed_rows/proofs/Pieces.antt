@@ -1,10 +1,13 @@
 -- The pack of each row stands where the ends tell it.
-use Rattle.std.proofs.Common.{◌≡◌, ℕ, ◌+◌, ◌-◌, ◌<◌, ◌≤◌, zero, suc, List, [], ◌∷◌, ◌++◌, length, take, drop, Some, All, refl, sym, ap, subst, ◌∙◌, append_assoc, length-append, arith}
+use Rattle.std.proofs.Common.{◌≡◌, ℕ, ◌+◌, ◌-◌, ◌<◌, ◌≤◌, zero, suc, List, [], ◌∷◌, ◌++◌, length, take, drop, get_or, Some, All, refl, sym, ap, subst, ◌∙◌, append_assoc, length-append, arith}
 use Rattle.std.specs.Prelude.{slice_get, slice_index}
 use Rattle.std.specs.List.{slice_range}
+use Rattle.std.proofs.lemmas.Grind.{get_or_default_zero}
 use Rattle.std.proofs.lemmas.List.Elements.{All-head, All-tail}
 use Rattle.metadata.specs.declared.cells.Cell.{Cell}
 use Rattle.metadata.specs.Cell.{IsCell}
+use Rattle.metadata.specs.Stored.{AreStoredAs}
+use Rattle.metadata.proofs.StoredCells.{one_value}
 use Rattle.packed_rows.specs.Packs.{ArePacked, ArePacksOf, IsPackAt, begin_from, ends_from, pack_of, packs_of}
 
 -- there are as many ends as rows
@@ -73,11 +76,25 @@ piece_at bytes ends kept place within =
     let ended = subst (λ (es : List ℕ). IsPiece (packs_of rows) (begin_from 0 es place) (slice_index es place) rows place) (sym kept.are.ended) cut_out in
     subst (λ (bs : List ℕ). IsPiece bs (begin_from 0 ends place) (slice_index ends place) rows place) (sym kept.are.packs) ended
 
-pub pack_at : (bytes ends : List ℕ) (kept : ArePacked bytes ends) (place : ℕ) → place < length ends →
-    IsPackAt kept.rows place (slice_range bytes (begin_from 0 ends place) (slice_index ends place))
-pack_at bytes ends kept place within =
-    let it = piece_at bytes ends kept place within in
+-- the same, as the calls that read the ends tell it
+pub piece_told : (bytes ends some : List ℕ) (kept : ArePacked bytes ends) (place begin end : ℕ) → place < length ends → some ≡ ends →
+    begin ≡ begin_from 0 some place → end ≡ get_or ends place end → IsPiece bytes begin end kept.rows place
+piece_told bytes ends some kept place begin end within same begun ended =
+    let first : begin ≡ begin_from 0 ends place = begun ∙ ap (λ (es : List ℕ). begin_from 0 es place) same in
+    let last : end ≡ slice_index ends place = ended ∙ get_or_default_zero ends place end within in
+    let at = subst (λ (b : ℕ). IsPiece bytes b (slice_index ends place) kept.rows place) (sym first) (piece_at bytes ends kept place within) in
+    subst (λ (e : ℕ). IsPiece bytes begin e kept.rows place) (sym last) at
+
+-- a piece is the pack of its row
+pub pack_of_piece : (bytes : List ℕ) (begin end : ℕ) (rows : List (List Cell)) (place : ℕ) → IsPiece bytes begin end rows place →
+    IsPackAt rows place (slice_range bytes begin end)
+pack_of_piece bytes begin end rows place it =
     record { row = it.row; found = it.found; packed = record { cells = it.cells; has_value = it.piece } }
+
+-- UNPACKED: the cells of the pack at a place are those of the row there
+pub unpacked : (rows : List (List Cell)) (place : ℕ) (pack : List ℕ) (cells : List Cell) → IsPackAt rows place pack → AreStoredAs pack cells →
+    Some cells ≡ slice_get rows place
+unpacked rows place pack cells at are = ap Some (one_value pack cells at.row are at.packed) ∙ sym at.found
 
 -- where the pack at a place begins, if it isn't the first one
 pub begin_after : (ends : List ℕ) (place : ℕ) → (place ≡ 0 → ⊥) → slice_index ends (place - 1) ≡ begin_from 0 ends place

@@ -33,10 +33,10 @@ one_list start (x ∷ xs) (y ∷ ys) mine yours packs ends =
     let behind : ends_from (start + length (pack_of x)) xs ≡ ends_from (start + length (pack_of y)) ys = cc in
     let both = parted (pack_of x) (pack_of y) (packs_of xs) (packs_of ys) (omega (arith, first)) packs in
     let row = one_value (pack_of x) x y
-        (record { cells = All-head (All IsCell) x xs mine; has_value = refl })
-        (record { cells = All-head (All IsCell) y ys yours; has_value = both.0 }) in
+    (record { cells = All-head (All IsCell) x xs mine; has_value = refl })
+    (record { cells = All-head (All IsCell) y ys yours; has_value = both.0 }) in
     let rest = one_list (start + length (pack_of x)) xs ys (All-tail (All IsCell) x xs mine) (All-tail (All IsCell) y ys yours) both.1
-        (behind ∙ ap (λ n. ends_from n ys) (sym first)) in
+    (behind ∙ ap (λ n. ends_from n ys) (sym first)) in
     λ i. row i ∷ rest i
 
 IsCell-prop : (cell : Cell) → IsProp (IsCell cell)
