@@ -51,21 +51,24 @@ pub pushed : (bytes ends more later : List ℕ) (kept : ArePacked bytes ends) (p
 pushed bytes ends more later kept pack row are longer ended =
     record { rows = kept.rows ++ row ∷ []; are = are_pushed bytes ends more later kept pack row are longer ended }
 
--- and their rows are those with the row
-pub rows_pushed : (bytes ends more later : List ℕ) (kept : ArePacked bytes ends) (new : ArePacked more later) (pack : List ℕ) (row : List Cell) →
-    AreStoredAs pack row → more ≡ bytes ++ pack → later ≡ ends ++ length more ∷ [] → new.rows ≡ kept.rows ++ row ∷ []
-rows_pushed bytes ends more later kept new pack row are longer ended =
+-- MORE: and their rows are those that stood there, with the row
+pub more_told : (bytes ends more later : List ℕ) (kept : ArePacked bytes ends) (shown : List (List Cell)) (pack : List ℕ) (row : List Cell) →
+    kept.rows ≡ shown → AreStoredAs pack row → more ≡ bytes ++ pack → later ≡ ends ++ length more ∷ [] →
+    (new : ArePacked more later) → new.rows ≡ shown ++ row ∷ []
+more_told bytes ends more later kept shown pack row is are longer ended new =
     same_rows more later new (record { rows = kept.rows ++ row ∷ []; are = are_pushed bytes ends more later kept pack row are longer ended })
+    ∙ ap (λ (rows : List (List Cell)). rows ++ row ∷ []) is
 
 -- SAME: bytes and ends that are the same are packed again, and their rows are the same
 pub unchanged : (bytes ends more later : List ℕ) → ArePacked bytes ends → more ≡ bytes → later ≡ ends → ArePacked more later
 unchanged bytes ends more later kept same ended =
     subst (λ (es : List ℕ). ArePacked more es) (sym ended) (subst (λ (bs : List ℕ). ArePacked bs ends) (sym same) kept)
 
-pub rows_unchanged : (bytes ends more later : List ℕ) (kept : ArePacked bytes ends) (new : ArePacked more later) → more ≡ bytes → later ≡ ends → new.rows ≡ kept.rows
-rows_unchanged bytes ends more later kept new same ended =
+pub same_told : (bytes ends more later : List ℕ) (kept : ArePacked bytes ends) (shown : List (List Cell)) → kept.rows ≡ shown →
+    more ≡ bytes → later ≡ ends → (new : ArePacked more later) → new.rows ≡ shown
+same_told bytes ends more later kept shown is same ended new =
     let at = subst (λ (bs : List ℕ). ArePacksOf bs ends kept.rows) (sym same) kept.are in
-    same_rows more later new (record { rows = kept.rows; are = subst (λ (es : List ℕ). ArePacksOf more es kept.rows) (sym ended) at })
+    same_rows more later new (record { rows = kept.rows; are = subst (λ (es : List ℕ). ArePacksOf more es kept.rows) (sym ended) at }) ∙ is
 
 -- KEPT: whether the call that adds a pack and its end returned `Ok` or not, they are packed
 pub kept_after : {T E : Type 0} (r : Result T E) (bytes ends more later : List ℕ) (kept : ArePacked bytes ends) (pack : List ℕ) (row : List Cell) →
@@ -88,9 +91,6 @@ stored_alone pack out cleared row cells same packed none =
 are_none : (bytes ends : List ℕ) → bytes ≡ [] → ends ≡ [] → ArePacksOf bytes ends []
 are_none bytes ends no_bytes no_ends = record { cells = All-nil (All IsCell); packs = no_bytes; ended = no_ends }
 
--- NONE: no bytes and no ends are those of no rows
-pub none_packed : (bytes ends : List ℕ) → bytes ≡ [] → ends ≡ [] → ArePacked bytes ends
-none_packed bytes ends no_bytes no_ends = record { rows = []; are = are_none bytes ends no_bytes no_ends }
-
-pub rows_none : (bytes ends : List ℕ) (new : ArePacked bytes ends) → bytes ≡ [] → ends ≡ [] → new.rows ≡ []
-rows_none bytes ends new no_bytes no_ends = same_rows bytes ends new (record { rows = []; are = are_none bytes ends no_bytes no_ends })
+-- NONE: where there are no bytes and no ends, there are no rows
+pub none_told : (bytes ends : List ℕ) → bytes ≡ [] → ends ≡ [] → (new : ArePacked bytes ends) → new.rows ≡ []
+none_told bytes ends no_bytes no_ends new = same_rows bytes ends new (record { rows = []; are = are_none bytes ends no_bytes no_ends })

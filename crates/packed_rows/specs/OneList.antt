@@ -11,7 +11,7 @@ use Rattle.metadata.specs.Cell.{IsCell}
 use Rattle.metadata.proofs.StoredCells.{one_value}
 use Rattle.packed_rows.specs.Packs.{ArePacked, ArePacksOf, ends_from, pack_of, packs_of}
 
--- two lists begin alike where they are the same with what stands behind
+-- Private: two lists begin alike where they are the same with what stands behind
 parted : (a b c d : List ℕ) → length a ≡ length b → a ++ c ≡ b ++ d → (a ≡ b) × (c ≡ d)
 parted [] [] c d len same = (refl, same)
 parted [] (y ∷ b) c d len same = absurd (omega (arith, len))
@@ -22,7 +22,7 @@ parted (x ∷ a) (y ∷ b) c d len same =
     let rest = parted a b c d (omega (arith, len)) behind in
     ((λ i. first i ∷ rest.0 i), rest.1)
 
--- rows with the same packs and the same ends are the same
+-- Private: rows with the same packs and the same ends are the same
 pub one_list : (start : ℕ) (a b : List (List Cell)) → All (All IsCell) a → All (All IsCell) b →
     packs_of a ≡ packs_of b → ends_from start a ≡ ends_from start b → a ≡ b
 one_list start [] [] mine yours packs ends = refl
@@ -39,15 +39,18 @@ one_list start (x ∷ xs) (y ∷ ys) mine yours packs ends =
     (behind ∙ ap (λ n. ends_from n ys) (sym first)) in
     λ i. row i ∷ rest i
 
+-- Private: a cell is a value of its type in one way
 IsCell-prop : (cell : Cell) → IsProp (IsCell cell)
 IsCell-prop Null = Unit-prop
 IsCell-prop (Int value) = hlevel props
 IsCell-prop (Text value) = hlevel props
 IsCell-prop (Bytes value) = hlevel props
 
+-- Private: so is each of a list
 All-prop : {X : Type 0} (P : X → Type 0) → ((x : X) → IsProp (P x)) → (xs : List X) → IsProp (All P xs)
 All-prop P one xs = Π_prop (λ k. Π_prop (λ d. →_prop (one (slice_index_or xs k d))))
 
+-- Private: bytes and ends are those of rows in one way
 ArePacksOf-prop : (bytes ends : List ℕ) (rows : List (List Cell)) → IsProp (ArePacksOf bytes ends rows)
 ArePacksOf-prop bytes ends rows x y =
     let cells_prop : IsProp (All (All IsCell) rows) = All-prop (All IsCell) (All-prop IsCell IsCell-prop) rows in
@@ -59,15 +62,17 @@ ArePacksOf-prop bytes ends rows x y =
       ended = ended_prop x.ended y.ended i;
     }
 
--- the rows that bytes and ends are those of
+-- Private: the rows that bytes and ends are those of are the same
 pub same_rows : (bytes ends : List ℕ) (a b : ArePacked bytes ends) → a.rows ≡ b.rows
-same_rows bytes ends a b = one_list 0 a.rows b.rows a.are.cells b.are.cells (sym a.are.packs ∙ b.are.packs) (sym a.are.ended ∙ b.are.ended)
+same_rows bytes ends a b =
+    one_list 0 a.rows b.rows a.are.cells b.are.cells (sym a.are.packs ∙ b.are.packs) (sym a.are.ended ∙ b.are.ended)
 
--- so there is no choice of them
+-- Private: so there is no choice of them
 pub ArePacked-prop : (bytes ends : List ℕ) → IsProp (ArePacked bytes ends)
 ArePacked-prop bytes ends a b =
     let same = same_rows bytes ends a b in
     λ i. record {
       rows = same i;
-      are = is_prop→PathP (λ j. ArePacksOf bytes ends (same j)) (λ j. ArePacksOf-prop bytes ends (same j)) a.are b.are i;
+      are = is_prop→PathP (λ j. ArePacksOf bytes ends (same j)) (λ j. ArePacksOf-prop bytes ends (same j))
+          a.are b.are i;
     }

@@ -93,7 +93,8 @@ impl Rows {
     /// are as they were.
     pub fn push_pack(&mut self, pack: &[u8]) -> Result<(), AllocError>
         requires { (row : List Cell) × AreStoredAs pack.now row }
-        ensures ok { OnOk result ((row : List Cell) → AreStoredAs pack.now row → self.new ≡ self.old ++ row ∷ []) }
+        ensures ok { OnOk result ((row : List Cell) → AreStoredAs pack.now row
+            → self.new ≡ self.old ++ row ∷ []) }
         ensures err { OnErr result (self.new ≡ self.old) }
     {
         push_piece(&mut self.bytes, &mut self.ends, pack)?;

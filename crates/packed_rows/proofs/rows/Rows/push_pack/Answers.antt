@@ -1,7 +1,5 @@
-use Rattle.std.proofs.Common.{◌≡◌, ◌∙◌, ◌++◌, ◌∷◌, [], List, ap, rules}
-use Rattle.metadata.specs.declared.cells.Cell.{Cell}
-use Rattle.packed_rows.specs.Packs.{ArePacked}
-use Rattle.packed_rows.proofs.OneMore.{kept_after, on_err, rows_pushed, rows_unchanged}
+use Rattle.std.proofs.Common.{rules}
+use Rattle.packed_rows.proofs.OneMore.{kept_after, more_told, on_err, same_told}
 use Rattle.packed_rows.proofs.rows.Rows.push_pack.Goals as goal
 
 pub invariant_of-self-inside : goal.invariant_of-self-inside
@@ -17,20 +15,15 @@ pub returns-in_err-push_piece-clause-err : goal.returns-in_err-push_piece-clause
 returns-in_err-push_piece-clause-err c =
     let f = c.self.inside in
     let told = c.in_err-push_piece.ensures in
-    let bytes = c.push_piece.new.bytes.items in
-    let ends = c.push_piece.new.ends.items in
-    let same : (new : ArePacked bytes ends) → new.rows ≡ c.args.self.now =
-    λ new. rows_unchanged f.bytes.items f.ends.items bytes ends f.kept new told.same_bytes told.same_ends ∙ c.self.view_is in
+    let same = same_told f.bytes.items f.ends.items c.push_piece.new.bytes.items c.push_piece.new.ends.items f.kept c.args.self.now c.self.view_is
+    told.same_bytes told.same_ends in
     on_err c.from_residual.result (search (rules, same))
 
 pub returns-clause-ok : goal.returns-clause-ok
 returns-clause-ok c =
     let f = c.self.inside in
     let told = c.in_ok-push_piece.ensures in
-    let bytes = c.push_piece.new.bytes.items in
-    let ends = c.push_piece.new.ends.items in
     λ row are.
-    let more : (new : ArePacked bytes ends) → new.rows ≡ c.args.self.now ++ row ∷ [] =
-    λ new. rows_pushed f.bytes.items f.ends.items bytes ends f.kept new c.args.pack.now row are told.bytes told.ends
-    ∙ ap (λ (rows : List (List Cell)). rows ++ row ∷ []) c.self.view_is in
+    let more = more_told f.bytes.items f.ends.items c.push_piece.new.bytes.items c.push_piece.new.ends.items f.kept c.args.self.now
+    c.args.pack.now row c.self.view_is are told.bytes told.ends in
     search (rules, more)
