@@ -8,7 +8,7 @@ use Rattle.metadata.specs.declared.cells.Cell.{Cell}
 use Rattle.metadata.specs.Cell.{IsCell}
 use Rattle.metadata.specs.Stored.{AreStoredAs}
 use Rattle.metadata.proofs.StoredCells.{one_value}
-use Rattle.packed_rows.specs.Packs.{ArePacked, ArePacksOf, IsPackAt, begin_from, ends_from, pack_of, packs_of}
+use Rattle.packed_rows.specs.Packs.{ArePacked, IsPackAt, begin_from, ends_from, pack_of, packs_of}
 
 -- there are as many ends as rows
 pub length-ends_from : (start : ℕ) (rows : List (List Cell)) → length (ends_from start rows) ≡ length rows
