@@ -35,8 +35,10 @@ one_list start (x ∷ xs) (y ∷ ys) mine yours packs ends =
     let row = one_value (pack_of x) x y
     (record { cells = All-head (All IsCell) x xs mine; has_value = refl })
     (record { cells = All-head (All IsCell) y ys yours; has_value = both.0 }) in
-    let rest = one_list (start + length (pack_of x)) xs ys (All-tail (All IsCell) x xs mine) (All-tail (All IsCell) y ys yours) both.1
-    (behind ∙ ap (λ n. ends_from n ys) (sym first)) in
+    let first_rest = All-tail (All IsCell) x xs mine in
+    let other_rest = All-tail (All IsCell) y ys yours in
+    let same_ends = behind ∙ ap (λ n. ends_from n ys) (sym first) in
+    let rest = one_list (start + length (pack_of x)) xs ys first_rest other_rest both.1 same_ends in
     λ i. row i ∷ rest i
 
 -- Private: a cell is a value of its type in one way

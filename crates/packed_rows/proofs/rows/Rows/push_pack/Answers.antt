@@ -14,9 +14,8 @@ invariant_of-self-inside c =
 pub returns-in_err-push_piece-clause-err : goal.returns-in_err-push_piece-clause-err
 returns-in_err-push_piece-clause-err c =
     let f = c.self.inside in
-    let told = c.in_err-push_piece.ensures in
     let same = same_told f.bytes.items f.ends.items c.push_piece.new.bytes.items c.push_piece.new.ends.items f.kept c.args.self.now c.self.view_is
-    told.same_bytes told.same_ends in
+    c.in_err-push_piece.ensures.same_bytes c.in_err-push_piece.ensures.same_ends in
     on_err c.from_residual.result (search (rules, same))
 
 pub returns-clause-ok : goal.returns-clause-ok
