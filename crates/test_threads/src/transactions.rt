@@ -6,11 +6,12 @@ ghost use Rattle.test_threads.specs.Turns.{AreOf};
 use cluster_core::Config;
 use metadata::Cells;
 use runtime::{Client, CommandError, CommitError, Done, End, Seen, Txn, Waits, begin, open};
-use schedule::{Command, Reply, SharedPlan, Step};
+use schedule::{AskedQuery, Command, Reply, SharedPlan, Step};
 use script::{make_line, script_of};
 use std::alloc::Global;
 use std::sync::Wait;
 use std::test::Fail;
+use tuple_codec::Text;
 
 /// The lines that tell a transaction, and what another client may learn of it.
 #[derive(Drop)]
@@ -82,23 +83,49 @@ fn found(found: Option<Cells>) -> Reply {
     }
 }
 
+/// A command for which there is a call of its name, by what that call takes.
+#[derive(Drop)]
+enum Named {
+    Save(Text, Cells),
+    Load(Text, Cells),
+    Remove(Text, Cells),
+    Plan(AskedQuery),
+    Execute(SharedPlan),
+    Aggregate(Text, Cells),
+}
+
+/// What the call of a command's name takes, where there is one, and memory for it.
+fn named(command: &Command) -> Option<Named> {
+    match command {
+        Command::Save(name, cells) => Some(Named::Save(name.copy().ok()?, cells.copy().ok()?)),
+        Command::Load(name, key) => Some(Named::Load(name.copy().ok()?, key.copy().ok()?)),
+        Command::Remove(name, key) => Some(Named::Remove(name.copy().ok()?, key.copy().ok()?)),
+        Command::Plan(query) => Some(Named::Plan(query.copy().ok()?)),
+        Command::Execute(plan) => Some(Named::Execute(plan.copy().ok()?)),
+        Command::Aggregate(name, group) => {
+            Some(Named::Aggregate(name.copy().ok()?, group.copy().ok()?))
+        }
+        _ => None,
+    }
+}
+
 /// Performs a command by the call of its name, where there is one.
 fn ask<E: End>(tx: &mut Txn<'_, E>, command: Command) -> Result<Reply, CommandError>
     ensures same_reference { tx.new.client.ghost_name ≡ tx.old.client.ghost_name }
     ensures continues { Continues tx.old.client.now tx.new.client.now }
 {
-    match command {
-        Command::Save(type_name, cells) => Ok(saved(tx.save(type_name, cells)?)),
-        Command::Load(type_name, key) => Ok(found(tx.load(type_name, key)?)),
-        Command::Remove(type_name, key) => Ok(if tx.remove(type_name, key)? {
+    match named(&command) {
+        Some(Named::Save(type_name, cells)) => Ok(saved(tx.save(type_name, cells)?)),
+        Some(Named::Load(type_name, key)) => Ok(found(tx.load(type_name, key)?)),
+        Some(Named::Remove(type_name, key)) => Ok(if tx.remove(type_name, key)? {
             Reply::Removed
         } else {
             Reply::Absent
         }),
-        Command::Plan(query) => Ok(Reply::Planned(tx.plan(query)?)),
-        Command::Execute(plan) => Ok(Reply::Rows(tx.execute(plan)?)),
-        Command::Aggregate(index, group) => Ok(Reply::Total(tx.aggregate(index, group)?)),
-        other => tx.call(&other),
+        Some(Named::Plan(query)) => Ok(Reply::Planned(tx.plan(query)?)),
+        Some(Named::Execute(plan)) => Ok(Reply::Rows(tx.execute(plan)?)),
+        Some(Named::Aggregate(index, group)) => Ok(Reply::Total(tx.aggregate(index, group)?)),
+        None => tx.call(&command),
     }
 }
 
