@@ -95,7 +95,7 @@ enum Named {
 }
 
 /// What the call of a command's name takes, where there is one, and memory for it.
-fn named(command: &Command) -> Option<Named> {
+fn asked_by_name(command: &Command) -> Option<Named> {
     match command {
         Command::Save(name, cells) => Some(Named::Save(name.copy().ok()?, cells.copy().ok()?)),
         Command::Load(name, key) => Some(Named::Load(name.copy().ok()?, key.copy().ok()?)),
@@ -114,7 +114,7 @@ fn ask<E: End>(tx: &mut Txn<'_, E>, command: Command) -> Result<Reply, CommandEr
     ensures same_reference { tx.new.client.ghost_name ≡ tx.old.client.ghost_name }
     ensures continues { Continues tx.old.client.now tx.new.client.now }
 {
-    match named(&command) {
+    match asked_by_name(&command) {
         Some(Named::Save(type_name, cells)) => Ok(saved(tx.save(type_name, cells)?)),
         Some(Named::Load(type_name, key)) => Ok(found(tx.load(type_name, key)?)),
         Some(Named::Remove(type_name, key)) => Ok(if tx.remove(type_name, key)? {
