@@ -3,87 +3,80 @@ ghost use Rattle.std.specs.Prelude.{◌≡◌, ◌++◌, OnOk, string_bytes};
 ghost use Rattle.shell_line.specs.Said.{field_after, field_text};
 
 use crate::flaw::LineError;
-use crate::word::{Word, Words, check_names, cut, name_at, only_object, wanted};
-use crate::writing::{push_comma, push_names, push_object, push_quoted};
-use std::alloc::{AllocError, Global};
+use crate::word::{Word, Words, check_names, wanted};
+use crate::writing::{comma_before, push_list, push_texts};
+use std::alloc::Global;
 
 // Whether a word is the name of a kind of field.
 fn is_kind(word: &Word<'_>) -> bool {
     word.is("int") || word.is("text") || word.is("bytes")
 }
 
-// Writes a field: its name and its kind.
-fn push_named_kind(out: &mut String, name: &Word<'_>, kind: &Word<'_>) -> Result<(), AllocError>
+// What is told where no kind of field stands.
+const A_KIND: &str = "a kind (int, text or bytes)";
+
+// Writes a text, and a field: its name and its kind.
+fn push_named_kind(
+    out: &mut String,
+    before: &str,
+    name: &Word<'_>,
+    kind: &Word<'_>,
+) -> Result<(), LineError>
     ensures { OnOk result (string_bytes out.new
-        ≡ string_bytes out.old ++ field_text name.now kind.now) }
+        ≡ string_bytes out.old ++ (before.now ++ field_text name.now kind.now)) }
 {
-    out.push_str("[")?;
-    push_quoted(out, name.text)?;
-    out.push_str(",")?;
-    push_quoted(out, kind.text)?;
-    out.push_str("]")
+    push_texts(out, &[before, "[\"", name.text, "\",\"", kind.text, "\"]"])
 }
 
-// Writes the field that two words at a place are.
+// Writes the field that two words at a place are, with a comma before each but the first.
 fn push_field_at(
     alloc: Global,
     out: &mut String,
     words: Words<'_, '_>,
     place: usize,
 ) -> Result<(), LineError> {
-    name_at(alloc, words, place, "a field's name")?;
-    match words.list.get(place..) {
-        Some([name, kind, ..]) if is_kind(kind) => {
-            push_named_kind(out, name, kind)?;
-            Ok(())
-        }
-        _ => Err(wanted(
-            alloc,
-            words,
-            place.saturating_add(1),
-            "a kind (int, text or bytes)",
-        )),
+    let next = place.saturating_add(1);
+    let (name, kind) = (words.at(place), words.at(next));
+    if !name.is_name() {
+        Err(wanted(alloc, words, place, "a field's name"))
+    } else if !is_kind(&kind) {
+        Err(wanted(alloc, words, next, A_KIND))
+    } else {
+        push_named_kind(out, comma_before(place), &name, &kind)
     }
 }
 
 // Writes fields, each of two words, with a comma between each two.
 fn push_fields(alloc: Global, out: &mut String, words: Words<'_, '_>) -> Result<(), LineError> {
     for index in 0..words.list.len().div_ceil(2) {
-        push_comma(out, index)?;
         push_field_at(alloc, out, words, index * 2)?;
     }
     Ok(())
 }
 
-/// Writes a type: `NAME FIELD KIND .. key FIELD ..`, or the object that it is in a script.
+/// Writes a type: `NAME FIELD KIND .. key FIELD ..`.
 pub(crate) fn push_type(
     alloc: Global,
     out: &mut String,
     words: Words<'_, '_>,
 ) -> Result<(), LineError> {
-    if let Some(object) = only_object(words.list) {
-        push_object(out, object)?;
-        return Ok(());
+    if !words.at(0).is_name() {
+        return Err(wanted(alloc, words, 0, "a type's name"));
     }
-    let name = name_at(alloc, words, 0, "a type's name")?;
-    let (fields, key) = cut(words.from(1), "key");
-    let Some(key) = key else {
+    let after = words.from(1);
+    if !after.has("key") {
         return Err(wanted(
             alloc,
             words,
             words.list.len(),
             "key, and the fields of the key,",
         ));
-    };
+    }
+    let key = after.after("key");
     check_names(alloc, key, "a field's name")?;
-    out.push_str(",{\"name\":")?;
-    push_quoted(out, name)?;
-    out.push_str(",\"fields\":[")?;
-    push_fields(alloc, out, fields)?;
-    out.push_str("],\"key\":[")?;
-    push_names(out, key.list)?;
-    out.push_str("]}")?;
-    Ok(())
+    push_texts(out, &["{\"name\":\"", words.at(0).text, "\",\"fields\":["])?;
+    push_fields(alloc, out, after.before("key"))?;
+    push_list(out, &["],\"key\":["], key.list, &["]}"])
 }
 
 /// Writes a field of a type: `TYPE NAME KIND`.
@@ -98,13 +91,10 @@ pub(crate) fn push_field(
     check_names(alloc, words, "a name")?;
     match words.list {
         [owner, name, kind] if is_kind(kind) => {
-            out.push_str(",")?;
-            push_quoted(out, owner.text)?;
-            out.push_str(",")?;
-            push_named_kind(out, name, kind)?;
-            Ok(())
+            push_texts(out, &[",\"", owner.text, "\""])?;
+            push_named_kind(out, ",", name, kind)
         }
-        [_, _, _] => Err(wanted(alloc, words, 2, "a kind (int, text or bytes)")),
+        [_, _, _] => Err(wanted(alloc, words, 2, A_KIND)),
         _ => Err(wanted(
             alloc,
             words,
@@ -114,55 +104,56 @@ pub(crate) fn push_field(
     }
 }
 
-// Writes an index of a kind over columns of a type, and what stands after them: `TYPE COLUMN ..`.
+// Writes an index of a kind over columns of a type, `TYPE COLUMN ..`, and what stands after them.
 fn push_index(
     alloc: Global,
     out: &mut String,
     name: &str,
     kind: &str,
     owner: Words<'_, '_>,
-    after: &str,
+    after: &[&str],
 ) -> Result<(), LineError> {
     check_names(alloc, owner, "a name")?;
-    let type_name = name_at(alloc, owner, 0, "a type's name")?;
-    out.push_str(",{\"name\":")?;
-    push_quoted(out, name)?;
-    out.push_str(",\"kind\":")?;
-    push_quoted(out, kind)?;
-    out.push_str(",\"type\":")?;
-    push_quoted(out, type_name)?;
-    out.push_str(",\"columns\":[")?;
-    push_names(out, owner.list.get(1..).unwrap_or(&[]))?;
-    out.push_str("]")?;
-    out.push_str(after)?;
-    out.push_str("}")?;
-    Ok(())
+    push_texts(
+        out,
+        &[
+            "{\"name\":\"",
+            name,
+            "\",\"kind\":\"",
+            kind,
+            "\",\"type\":\"",
+        ],
+    )?;
+    let before = [owner.at(0).text, "\",\"columns\":["];
+    push_list(out, &before, owner.from(1).list, after)
 }
 
-// The name of an index before the word `on`, and what stands after it.
-fn before_on<'w, 'a>(
-    alloc: Global,
-    words: Words<'w, 'a>,
-) -> Result<(&'a str, Words<'w, 'a>), LineError> {
-    let name = name_at(alloc, words, 0, "an index's name")?;
-    match words.list.get(1) {
-        Some(on) if on.is("on") => Ok((name, words.from(2))),
-        _ => Err(wanted(alloc, words, 1, "on, and a type's name,")),
+// Tells which of the first two words isn't the name of an index, and the word `on`.
+fn check_on(alloc: Global, words: Words<'_, '_>) -> Result<(), LineError> {
+    if !words.at(0).is_name() {
+        Err(wanted(alloc, words, 0, "an index's name"))
+    } else if !words.at(1).is("on") {
+        Err(wanted(alloc, words, 1, "on, and a type's name,"))
+    } else {
+        Ok(())
     }
 }
 
-/// Writes an index: `NAME on TYPE COLUMN ..`, or the object that it is in a script.
+/// Writes an index: `NAME on TYPE COLUMN ..`.
 pub(crate) fn push_value(
     alloc: Global,
     out: &mut String,
     words: Words<'_, '_>,
 ) -> Result<(), LineError> {
-    if let Some(object) = only_object(words.list) {
-        push_object(out, object)?;
-        return Ok(());
-    }
-    let (name, owner) = before_on(alloc, words)?;
-    push_index(alloc, out, name, "value", owner, "")
+    check_on(alloc, words)?;
+    push_index(
+        alloc,
+        out,
+        words.at(0).text,
+        "value",
+        words.from(2),
+        &["]}"],
+    )
 }
 
 /// Writes a COUNT: `NAME on TYPE COLUMN .. [clear_when_zero]`.
@@ -171,19 +162,15 @@ pub(crate) fn push_count(
     out: &mut String,
     words: Words<'_, '_>,
 ) -> Result<(), LineError> {
-    let (name, owner) = before_on(alloc, words)?;
-    let (columns, cleared) = cut(owner, "clear_when_zero");
-    match cleared {
-        Some(_) => push_index(
-            alloc,
-            out,
-            name,
-            "count",
-            columns,
-            ",\"clear_when_zero\":true",
-        ),
-        None => push_index(alloc, out, name, "count", columns, ""),
-    }
+    check_on(alloc, words)?;
+    let owner = words.from(2);
+    let after = if owner.has("clear_when_zero") {
+        "],\"clear_when_zero\":true}"
+    } else {
+        "]}"
+    };
+    let owner = owner.before("clear_when_zero");
+    push_index(alloc, out, words.at(0).text, "count", owner, &[after])
 }
 
 /// Writes a SUM: `NAME of FIELD on TYPE COLUMN ..`.
@@ -192,15 +179,14 @@ pub(crate) fn push_sum(
     out: &mut String,
     words: Words<'_, '_>,
 ) -> Result<(), LineError> {
-    let name = name_at(alloc, words, 0, "an index's name")?;
-    let Some(of) = words.list.get(1) else {
-        return Err(wanted(alloc, words, 1, "of, and a field's name,"));
-    };
-    if !of.is("of") {
+    if !words.at(0).is_name() {
+        return Err(wanted(alloc, words, 0, "an index's name"));
+    }
+    if !words.at(1).is("of") {
         return Err(wanted(alloc, words, 1, "of, and a field's name,"));
     }
-    let (summed, owner) = before_on(alloc, words.from(2))?;
-    let mut after = String::from_str(alloc, ",\"summed\":")?;
-    push_quoted(&mut after, summed)?;
-    push_index(alloc, out, name, "sum", owner, after.as_str())
+    let on = words.from(2);
+    check_on(alloc, on)?;
+    let after = ["],\"summed\":\"", on.at(0).text, "\"}"];
+    push_index(alloc, out, words.at(0).text, "sum", on.from(2), &after)
 }

@@ -1,4 +1,5 @@
 // What is wrong with a line. Used by every module here.
+use crate::writing::push_texts;
 use std::alloc::{AllocError, AllocFailed, Global};
 
 /// What is wrong with a line, and where.
@@ -32,16 +33,12 @@ impl<T: Drop> From<AllocFailed<T>> for LineError {
 }
 
 impl LineError {
-    /// The error of what is wrong at a place.
-    pub(crate) fn told(at: usize, reason: Result<String, AllocError>) -> LineError {
-        match reason {
-            Ok(reason) => LineError::Bad(Flaw { at, reason }),
-            Err(AllocError) => LineError::OutOfMemory,
+    /// The error of what is wrong at a place, which is told by these texts, one after another.
+    pub(crate) fn said(alloc: Global, at: usize, texts: &[&str]) -> LineError {
+        let mut reason = String::new(alloc);
+        match push_texts(&mut reason, texts) {
+            Ok(()) => LineError::Bad(Flaw { at, reason }),
+            Err(error) => error,
         }
-    }
-
-    /// The same of a text that is no value's.
-    pub(crate) fn said(alloc: Global, at: usize, reason: &str) -> LineError {
-        LineError::told(at, String::from_str(alloc, reason))
     }
 }

@@ -1,19 +1,19 @@
-// The steps that words stand for. Called by `line`.
-ghost use Rattle.std.specs.Prelude.{◌≡◌, ◌++◌, List, ℕ, IfOk, OnOk, string_bytes};
+// The steps that words stand for. Called by `line`, `Form` by `topics`.
+ghost use Rattle.std.specs.Prelude.{◌≡◌, ◌++◌, ◌∷◌, List, ℕ, IfOk, OnOk, string_bytes};
 ghost use Rattle.shell_line.specs.Said.{IsAfterClient, IsSaid, build_after, cells_after};
 ghost use Rattle.shell_line.specs.Said.{schema_after, step_alone, step_end, store_after};
-ghost use Rattle.shell_line.specs.Said.{index_after, role_step, step_name};
+ghost use Rattle.shell_line.specs.Said.{index_after, role_step, step_begin, step_name};
 
 use crate::defining::{push_count, push_field, push_sum, push_type, push_value};
 use crate::flaw::LineError;
 use crate::querying::push_query;
 use crate::topics::topic_of;
-use crate::word::{Word, WordKind, Words, name_at, wanted};
-use crate::writing::{push_joined, push_opened, push_quoted};
+use crate::word::{Word, WordKind, Words, wanted};
+use crate::writing::{push_joined, push_opened, push_texts};
 use std::alloc::Global;
 
 /// What stands after the word that begins a line.
-#[derive(Clone, Copy, Debug, PartialEq, Eq, Drop)]
+#[derive(Clone, Copy, Debug, Drop)]
 pub(crate) enum Form {
     /// Nothing, and no client takes the step.
     Alone,
@@ -47,38 +47,20 @@ pub(crate) enum Form {
     Sum,
 }
 
-/// What stands after a word that begins a line, none where it begins no step.
-pub(crate) fn form_of(word: &str) -> Option<Form> {
-    match word {
-        "report" | "lost" | "settle" => Some(Form::Alone),
-        "execute" | "abandon" => Some(Form::Bare),
-        "begin" => Some(Form::Begin),
-        "commit" => Some(Form::Commit),
-        "resolve" | "log" | "pull" => Some(Form::Role),
-        "state" | "drop" | "disable" | "write_only" | "readable" => Some(Form::Named),
-        "build" => Some(Form::Build),
-        "save" | "load" | "remove" | "aggregate" => Some(Form::Cells),
-        "query" | "plan" => Some(Form::Query),
-        "create" => Some(Form::Create),
-        "type" => Some(Form::Type),
-        "field" => Some(Form::Field),
-        "index" => Some(Form::Value),
-        "count" => Some(Form::Count),
-        "sum" => Some(Form::Sum),
-        _ => None,
+// Tells that the words after a verb aren't those that it takes.
+fn other_form(alloc: Global, verb: &Word<'_>) -> LineError {
+    match topic_of(verb.text) {
+        Some(topic) => LineError::said(alloc, verb.at, &["the form is: ", topic.form]),
+        None => {
+            let texts = ["these aren't the words after ", verb.text];
+            LineError::said(alloc, verb.at, &texts)
+        }
     }
 }
 
-// Tells that the words after a verb aren't those that it takes.
-fn other_form(alloc: Global, verb: &Word<'_>) -> LineError {
-    let (at, word) = (verb.at, verb.text);
-    match topic_of(word) {
-        Some(topic) => {
-            let form = topic.form;
-            LineError::told(at, format!(in alloc; "the form is: {form}"))
-        }
-        None => LineError::told(at, format!(in alloc; "these aren't the words after {word}")),
-    }
+// Whether a word may be the number of a store.
+fn is_store(word: &Word<'_>) -> bool {
+    word.kind == WordKind::Number && !word.text.starts_with("-")
 }
 
 // Writes the number of a store, where one is named.
@@ -92,15 +74,11 @@ fn push_store(
         ≡ string_bytes out.old ++ store_after words.entry.list.now) }
 {
     match words.list {
-        [] => {}
-        [store] if store.kind == WordKind::Number && !store.text.starts_with("-") => {
-            out.push_str(",")?;
-            out.push_str(store.text)?;
-        }
-        [_] => return Err(wanted(alloc, words, 0, "the number of a store")),
-        _ => return Err(other_form(alloc, verb)),
+        [] => Ok(()),
+        [store] if is_store(store) => push_texts(out, &[",", store.text]),
+        [_] => Err(wanted(alloc, words, 0, "the number of a store")),
+        _ => Err(other_form(alloc, verb)),
     }
-    Ok(())
 }
 
 // Writes the name of an index.
@@ -113,13 +91,22 @@ fn push_named(
     ensures { OnOk result (string_bytes out.new
         ≡ string_bytes out.old ++ index_after words.entry.list.now) }
 {
-    let [index] = words.list else {
-        return Err(other_form(alloc, verb));
-    };
-    name_at(alloc, words, 0, "an index's name")?;
-    out.push_str(",")?;
-    push_quoted(out, index.text)?;
-    Ok(())
+    match words.list {
+        [index] if index.is_name() => push_texts(out, &[",\"", index.text, "\""]),
+        [_] => Err(wanted(alloc, words, 0, "an index's name")),
+        _ => Err(other_form(alloc, verb)),
+    }
+}
+
+// Tells what is wrong with words that aren't the name of an index, and how many records are built.
+fn no_build(alloc: Global, verb: &Word<'_>, words: Words<'_, '_>) -> LineError {
+    if !words.at(0).is_name() {
+        wanted(alloc, words, 0, "an index's name")
+    } else if words.list.len() == 2 {
+        wanted(alloc, words, 1, "a number of records")
+    } else {
+        other_form(alloc, verb)
+    }
 }
 
 // Writes the name of an index, and how many records are built: 100 where nothing is said.
@@ -132,29 +119,19 @@ fn push_build(
     ensures { OnOk result (string_bytes out.new
         ≡ string_bytes out.old ++ build_after words.entry.list.now) }
 {
-    name_at(alloc, words, 0, "an index's name")?;
     match words.list {
-        [index] => {
-            out.push_str(",")?;
-            push_quoted(out, index.text)?;
-            out.push_str(",100")?;
+        [index] if index.is_name() => push_texts(out, &[",\"", index.text, "\",100"]),
+        [index, limit] if index.is_name() && limit.kind == WordKind::Number => {
+            push_texts(out, &[",\"", index.text, "\",", limit.text])
         }
-        [index, limit] if limit.kind == WordKind::Number => {
-            out.push_str(",")?;
-            push_quoted(out, index.text)?;
-            out.push_str(",")?;
-            out.push_str(limit.text)?;
-        }
-        [_, _] => return Err(wanted(alloc, words, 1, "a number of records")),
-        _ => return Err(other_form(alloc, verb)),
+        _ => Err(no_build(alloc, verb, words)),
     }
-    Ok(())
 }
 
 // Tells which of the words after the first one isn't a cell.
 fn check_cells(alloc: Global, words: Words<'_, '_>) -> Result<(), LineError> {
     for place in 1..words.list.len() {
-        if !words.list[place].is_cell() {
+        if !words.at(place).is_cell() {
             let what = "a cell (a number, a text in quotes, {\"hex\":\"..\"} or null)";
             return Err(wanted(alloc, words, place, what));
         }
@@ -163,21 +140,27 @@ fn check_cells(alloc: Global, words: Words<'_, '_>) -> Result<(), LineError> {
 }
 
 // Writes the name of a type or of an index, and cells.
+fn push_owned(out: &mut String, owner: &Word<'_>, cells: &[Word<'_>]) -> Result<(), LineError>
+    ensures { OnOk result (string_bytes out.new
+        ≡ string_bytes out.old ++ cells_after (owner.now ∷ cells.now)) }
+{
+    push_texts(out, &[",\"", owner.text, "\",["])?;
+    push_joined(out, cells)?;
+    push_texts(out, &["]"])
+}
+
+// Writes the same of words that have to be a name and cells.
 fn push_cells(alloc: Global, out: &mut String, words: Words<'_, '_>) -> Result<(), LineError>
     ensures { OnOk result (string_bytes out.new
         ≡ string_bytes out.old ++ cells_after words.entry.list.now) }
 {
-    let [owner, cells @ ..] = words.list else {
-        return Err(wanted(alloc, words, 0, "a name"));
-    };
-    name_at(alloc, words, 0, "a name")?;
-    check_cells(alloc, words)?;
-    out.push_str(",")?;
-    push_quoted(out, owner.text)?;
-    out.push_str(",[")?;
-    push_joined(out, cells)?;
-    out.push_str("]")?;
-    Ok(())
+    match words.list {
+        [owner, cells @ ..] if owner.is_name() => {
+            check_cells(alloc, words)?;
+            push_owned(out, owner, cells)
+        }
+        _ => Err(wanted(alloc, words, 0, "a name")),
+    }
 }
 
 // Writes a schema, which has no types where nothing is said.
@@ -191,31 +174,50 @@ fn push_schema(
         ≡ string_bytes out.old ++ schema_after words.entry.list.now) }
 {
     match words.list {
-        [] => out.push_str(",{\"types\":[]}")?,
-        [schema] if schema.kind == WordKind::Object => {
-            out.push_str(",")?;
-            out.push_str(schema.text)?;
-        }
-        _ => return Err(other_form(alloc, verb)),
+        [] => push_texts(out, &[",{\"types\":[]}"]),
+        [schema] if schema.kind == WordKind::Object => push_texts(out, &[",", schema.text]),
+        _ => Err(other_form(alloc, verb)),
     }
-    Ok(())
 }
 
-// The text of a query, of a type or of an index, with a comma before it.
-fn free_text(alloc: Global, form: Form, words: Words<'_, '_>) -> Result<String, LineError> {
-    let mut text = String::new(alloc);
-    match form {
-        Form::Query => push_query(alloc, &mut text, words)?,
-        Form::Type => push_type(alloc, &mut text, words)?,
-        Form::Count => push_count(alloc, &mut text, words)?,
-        Form::Sum => push_sum(alloc, &mut text, words)?,
-        _ => push_value(alloc, &mut text, words)?,
+// Whether the only word is an object that a form takes in the place of words.
+fn is_object(form: Form, words: Words<'_, '_>) -> bool {
+    let takes = matches!(form, Form::Query | Form::Type | Form::Value);
+    takes && words.list.len() == 1 && words.at(0).kind == WordKind::Object
+}
+
+// Writes a query, a type or an index, or the object that it is in a script.
+fn push_free(
+    alloc: Global,
+    out: &mut String,
+    form: Form,
+    words: Words<'_, '_>,
+) -> Result<(), LineError> {
+    if is_object(form, words) {
+        return push_texts(out, &[words.at(0).text]);
     }
+    match form {
+        Form::Query => push_query(alloc, out, words),
+        Form::Type => push_type(alloc, out, words),
+        Form::Count => push_count(alloc, out, words),
+        Form::Sum => push_sum(alloc, out, words),
+        _ => push_value(alloc, out, words),
+    }
+}
+
+/// The text of a query, of a type or of an index.
+pub(crate) fn free_text(
+    alloc: Global,
+    form: Form,
+    words: Words<'_, '_>,
+) -> Result<String, LineError> {
+    let mut text = String::new(alloc);
+    push_free(alloc, &mut text, form, words)?;
     Ok(text)
 }
 
-// Writes a query, a type or an index.
-fn push_free(
+// Writes a query, a type or an index, with a comma before it.
+fn push_free_text(
     alloc: Global,
     out: &mut String,
     form: Form,
@@ -225,8 +227,7 @@ fn push_free(
         × (string_bytes out.new ≡ string_bytes out.old ++ text)) }
 {
     let text = free_text(alloc, form, words)?;
-    out.push_str(text.as_str())?;
-    Ok(())
+    push_texts(out, &[",", text.as_str()])
 }
 
 // Writes what stands after the client of a step.
@@ -247,11 +248,9 @@ fn push_after(
         Form::Cells => push_cells(alloc, out, words),
         Form::Create => push_schema(alloc, out, verb, words),
         Form::Field => push_field(alloc, out, words),
-        Form::Query => push_free(alloc, out, form, words),
-        Form::Type => push_free(alloc, out, form, words),
-        Form::Value => push_free(alloc, out, form, words),
-        Form::Count => push_free(alloc, out, form, words),
-        Form::Sum => push_free(alloc, out, form, words),
+        Form::Query | Form::Type | Form::Value | Form::Count | Form::Sum => {
+            push_free_text(alloc, out, form, words)
+        }
         Form::Alone | Form::Bare | Form::Commit | Form::Role => match words.list {
             [] => Ok(()),
             _ => Err(other_form(alloc, verb)),
@@ -279,32 +278,75 @@ fn end_of(form: Form) -> &'static str
     }
 }
 
-// The text of a step without a client.
-fn alone(alloc: Global, verb: &Word<'_>, words: Words<'_, '_>) -> Result<String, LineError>
-    ensures { IfOk result (λ text. string_bytes text ≡ step_alone verb.now.text.now) }
+// Writes a step without a client.
+fn push_alone(
+    alloc: Global,
+    out: &mut String,
+    verb: &Word<'_>,
+    words: Words<'_, '_>,
+) -> Result<(), LineError>
+    ensures { OnOk result (string_bytes out.new
+        ≡ string_bytes out.old ++ step_alone verb.now.text.now) }
 {
     if !words.list.is_empty() {
         return Err(other_form(alloc, verb));
     }
-    let mut out = String::from_str(alloc, "[")?;
-    push_quoted(&mut out, verb.text)?;
-    out.push_str("]")?;
-    Ok(out)
+    push_texts(out, &["[\"", verb.text, "\"]"])
 }
 
-// The text of a role's step.
-fn of_role(alloc: Global, verb: &Word<'_>, words: Words<'_, '_>) -> Result<String, LineError>
-    ensures { IfOk result (λ text.
-        string_bytes text ≡ role_step verb.now.text.now words.entry.list.now) }
+// Writes the step of a role.
+fn push_role(
+    alloc: Global,
+    out: &mut String,
+    verb: &Word<'_>,
+    words: Words<'_, '_>,
+) -> Result<(), LineError>
+    ensures { OnOk result (string_bytes out.new
+        ≡ string_bytes out.old ++ role_step verb.now.text.now words.entry.list.now) }
 {
     match words.list {
         [role] if role.kind == WordKind::Number => {
-            let mut out = String::new(alloc);
-            push_opened(&mut out, verb.text, role.text)?;
-            out.push_str("]")?;
-            Ok(out)
+            push_texts(out, &["[\"", verb.text, "\",", role.text, "]"])
         }
         _ => Err(other_form(alloc, verb)),
+    }
+}
+
+// Writes the step of a client.
+fn push_of_client(
+    alloc: Global,
+    out: &mut String,
+    client: &str,
+    form: Form,
+    verb: &Word<'_>,
+    words: Words<'_, '_>,
+) -> Result<(), LineError>
+    ensures { OnOk result ((text : List ℕ) × IsAfterClient form words.entry.list.now text
+        × (string_bytes out.new ≡ string_bytes out.old
+        ++ (step_begin (step_name form verb.now.text.now) client.now ++ (text ++ step_end form)))) }
+{
+    push_opened(out, name_of(form, verb.text), client)?;
+    push_after(alloc, out, form, verb, words)?;
+    push_texts(out, &[end_of(form)])
+}
+
+// Writes the steps that a word and those after it stand for.
+fn push_steps(
+    alloc: Global,
+    out: &mut String,
+    client: &str,
+    form: Form,
+    verb: &Word<'_>,
+    words: Words<'_, '_>,
+) -> Result<(), LineError>
+    ensures { OnOk result ((text : List ℕ)
+        × IsSaid form client.now verb.now.text.now words.entry.list.now text
+        × (string_bytes out.new ≡ string_bytes out.old ++ text)) }
+{
+    match form {
+        Form::Alone => push_alone(alloc, out, verb, words),
+        Form::Role => push_role(alloc, out, verb, words),
+        _ => push_of_client(alloc, out, client, form, verb, words),
     }
 }
 
@@ -323,15 +365,7 @@ pub(crate) fn steps_text(
     ensures { IfOk result (λ text.
         IsSaid form client.now verb.now.text.now words.entry.list.now (string_bytes text)) }
 {
-    match form {
-        Form::Alone => alone(alloc, verb, words),
-        Form::Role => of_role(alloc, verb, words),
-        _ => {
-            let mut out = String::with_capacity(alloc, MOSTLY)?;
-            push_opened(&mut out, name_of(form, verb.text), client)?;
-            push_after(alloc, &mut out, form, verb, words)?;
-            out.push_str(end_of(form))?;
-            Ok(out)
-        }
-    }
+    let mut out = String::with_capacity(alloc, MOSTLY)?;
+    push_steps(alloc, &mut out, client, form, verb, words)?;
+    Ok(out)
 }

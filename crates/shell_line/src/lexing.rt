@@ -30,7 +30,7 @@ fn letters(bytes: &[u8]) -> usize {
 }
 
 // Whether a byte is within a text in quotes, and after a backslash in it.
-#[derive(Clone, Copy, Debug, PartialEq, Eq, Drop)]
+#[derive(Clone, Copy, PartialEq, Eq, Drop)]
 enum Quoting {
     Outside,
     Inside,
@@ -48,16 +48,16 @@ fn quoting_after(quoting: Quoting, byte: u8) -> Quoting {
     }
 }
 
-// How many bytes the text in quotes has with which bytes begin, none where it isn't closed.
-fn text_length(bytes: &[u8]) -> Option<usize> {
+// How many bytes the text in quotes has with which bytes begin, 0 where it isn't closed.
+fn text_length(bytes: &[u8]) -> usize {
     let mut quoting = Quoting::Outside;
     for (index, byte) in bytes.iter().enumerate() {
         quoting = quoting_after(quoting, *byte);
         if quoting == Quoting::Outside {
-            return Some(index + 1);
+            return index + 1;
         }
     }
-    None
+    0
 }
 
 // How deep brackets nest after a byte that is in no text.
@@ -69,8 +69,8 @@ fn depth_after(depth: usize, byte: u8) -> usize {
     }
 }
 
-// How many bytes the object has with which bytes begin, none where it isn't closed.
-fn object_length(bytes: &[u8]) -> Option<usize> {
+// How many bytes the object has with which bytes begin, 0 where it isn't closed.
+fn object_length(bytes: &[u8]) -> usize {
     let mut quoting = Quoting::Outside;
     let mut depth = 0;
     for (index, byte) in bytes.iter().enumerate() {
@@ -78,42 +78,43 @@ fn object_length(bytes: &[u8]) -> Option<usize> {
         if quoting == Quoting::Outside {
             depth = depth_after(depth, *byte);
             if depth == 0 {
-                return Some(index + 1);
+                return index + 1;
             }
         }
     }
-    None
+    0
 }
 
-// How many bytes the sign has with which bytes begin.
-fn sign_length(bytes: &[u8]) -> Option<usize> {
+// How many bytes the sign has with which bytes begin, 0 where they begin with none.
+fn sign_length(bytes: &[u8]) -> usize {
     match bytes {
-        [b'!' | b'<' | b'>', b'=', ..] => Some(2),
-        [b'=' | b'<' | b'>', ..] => Some(1),
-        _ => None,
+        [b'!' | b'<' | b'>', b'=', ..] => 2,
+        [b'=' | b'<' | b'>', ..] => 1,
+        _ => 0,
     }
 }
 
 // What a word is that begins with this byte.
-fn kind_of(byte: u8) -> Option<WordKind> {
+fn kind_of(byte: u8) -> WordKind {
     match byte {
-        b'"' => Some(WordKind::Text),
-        b'{' => Some(WordKind::Object),
-        b'-' | b'0'..=b'9' => Some(WordKind::Number),
-        b'=' | b'!' | b'<' | b'>' => Some(WordKind::Sign),
-        _ if is_letter(byte) => Some(WordKind::Name),
-        _ => None,
+        b'"' => WordKind::Text,
+        b'{' => WordKind::Object,
+        b'-' | b'0'..=b'9' => WordKind::Number,
+        b'=' | b'!' | b'<' | b'>' => WordKind::Sign,
+        _ if is_letter(byte) => WordKind::Name,
+        _ => WordKind::Nothing,
     }
 }
 
-// How many bytes the word of this kind has with which bytes begin.
-fn length_of(kind: WordKind, bytes: &[u8]) -> Option<usize> {
+// How many bytes the word of this kind has with which bytes begin, 0 where they begin with none.
+fn length_of(kind: WordKind, bytes: &[u8]) -> usize {
     match kind {
-        WordKind::Name => Some(letters(bytes)),
-        WordKind::Number => Some(letters(bytes.get(1..).unwrap_or(&[])).saturating_add(1)),
+        WordKind::Name => letters(bytes),
+        WordKind::Number => letters(bytes.get(1..).unwrap_or(&[])).saturating_add(1),
         WordKind::Text => text_length(bytes),
         WordKind::Object => object_length(bytes),
         WordKind::Sign => sign_length(bytes),
+        WordKind::Nothing => 0,
     }
 }
 
@@ -130,48 +131,65 @@ fn reason_of(byte: u8) -> &'static str {
     }
 }
 
-// Whether a text is a whole number of 64 bits with sign, as JSON writes it.
-fn is_number(text: &str) -> bool {
-    let digits = text.strip_prefix("-").unwrap_or(text);
-    let has_zeros = digits.len() > 1 && digits.starts_with("0");
-    !has_zeros && text != "-0" && text.parse::<i64>().is_ok()
-}
-
-// What is wrong with a word, if something is.
-fn flaw_of(kind: WordKind, text: &str) -> Option<&'static str> {
-    if kind == WordKind::Number && !is_number(text) {
-        Some("a number is a whole one of 64 bits with sign, without zeros before it")
-    } else {
-        None
+/// Whether a text that begins with a digit or a minus is a whole number of 64 bits with sign, as
+/// JSON writes it.
+pub(crate) fn is_number(text: &str) -> bool {
+    match text.as_bytes() {
+        [b'0'] | [b'1'..=b'9', ..] | [b'-', b'1'..=b'9', ..] => text.parse::<i64>().is_ok(),
+        _ => false,
     }
 }
 
-/// The next word after so many bytes of a line, none at its end.
-pub(crate) fn next_word<'a>(
-    alloc: Global,
-    line: &'a str,
-    from: usize,
-) -> Result<Option<Word<'a>>, LineError> {
-    let rest = line.as_bytes().get(from..).unwrap_or(&[]);
-    let at = from.saturating_add(blanks(rest));
-    let bytes = line.as_bytes().get(at..).unwrap_or(&[]);
-    let Some(first) = bytes.first() else {
-        return Ok(None);
-    };
-    let kind = kind_of(*first);
-    let length = kind.and_then(|kind| length_of(kind, bytes));
-    let (Some(kind), Some(length)) = (kind, length) else {
-        return Err(LineError::said(alloc, at, reason_of(*first)));
-    };
+/// The byte at a place of a line, and that which begins a comment where there is none.
+pub(crate) fn byte_at(line: &str, place: usize) -> u8 {
+    match line.as_bytes().get(place) {
+        Some(byte) => *byte,
+        None => b'#',
+    }
+}
+
+// The next word after so many bytes of a line, which has no bytes where none is read.
+fn next_word(line: &str, from: usize) -> Word<'_> {
+    let at = from.saturating_add(blanks(line.as_bytes().get(from..).unwrap_or(&[])));
+    let kind = kind_of(byte_at(line, at));
+    let length = length_of(kind, line.as_bytes().get(at..).unwrap_or(&[]));
     let text = line.get(at..at.saturating_add(length)).unwrap_or("");
-    match flaw_of(kind, text) {
-        Some(reason) => Err(LineError::said(alloc, at, reason)),
-        None => Ok(Some(Word { kind, text, at })),
+    Word { kind, text, at }
+}
+
+// Tells what is wrong with a word of a line, if something is.
+fn check_word(alloc: Global, line: &str, word: &Word<'_>) -> Result<(), LineError> {
+    if word.text.is_empty() {
+        return Err(LineError::said(alloc, word.at, &[reason_of(byte_at(line, word.at))]));
     }
+    if word.kind == WordKind::Number && !is_number(word.text) {
+        let reason = "a number is a whole one of 64 bits with sign, without zeros before it";
+        return Err(LineError::said(alloc, word.at, &[reason]));
+    }
+    Ok(())
 }
 
 // How many words a line mostly has at most.
 const MOSTLY: usize = 8;
+
+// Adds the words of a line after so many bytes.
+fn push_words<'a>(
+    alloc: Global,
+    words: &mut Vec<Word<'a>>,
+    line: &'a str,
+    from: usize,
+) -> Result<(), LineError> {
+    let mut word = next_word(line, from);
+    for _ in 0..line.len() {
+        if word.at >= line.len() {
+            break;
+        }
+        check_word(alloc, line, &word)?;
+        words.push(word)?;
+        word = next_word(line, word.at.saturating_add(word.text.len()));
+    }
+    Ok(())
+}
 
 /// The words of a line after so many bytes.
 pub(crate) fn words_of<'a>(
@@ -180,13 +198,6 @@ pub(crate) fn words_of<'a>(
     from: usize,
 ) -> Result<Vec<Word<'a>>, LineError> {
     let mut words = Vec::with_capacity(alloc, MOSTLY)?;
-    let mut at = from;
-    for _ in 0..line.len() {
-        let Some(word) = next_word(alloc, line, at)? else {
-            break;
-        };
-        at = word.at.saturating_add(word.text.len().max(1));
-        words.push(word)?;
-    }
+    push_words(alloc, &mut words, line, from)?;
     Ok(words)
 }

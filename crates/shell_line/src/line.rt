@@ -3,12 +3,11 @@ ghost use Rattle.std.specs.Prelude.{IfOk};
 ghost use Rattle.shell_line.specs.Said.{IsTypedLine};
 
 use crate::flaw::LineError;
-use crate::forms::{form_of, steps_text};
-use crate::lexing::{blanks, words_of};
-use crate::querying::push_query;
-use crate::topics::{Topic, near_topic, topic_of};
+use crate::forms::{Form, free_text, steps_text};
+use crate::lexing::{blanks, byte_at, is_number, words_of};
+use crate::topics::{Topic, form_of, near_topic, topic_of};
 use crate::word::{Word, Words};
-use std::alloc::{AllocError, Global};
+use std::alloc::Global;
 
 /// What is shown beside the steps, or done with a file.
 #[derive(Debug, Drop)]
@@ -46,45 +45,34 @@ pub enum Line {
     Quit,
 }
 
-// The number of a client before a line and a colon, and how many bytes these have.
-fn client_of(line: &str) -> (&str, usize) {
-    match line.split_once(":") {
-        Some((client, _)) if is_client(client) => (client, client.len().saturating_add(1)),
-        _ => ("0", 0),
-    }
-}
-
-// The client of a number that is written.
-fn number_of(client: &str) -> u64 {
-    client.parse::<u64>().unwrap_or(0)
-}
-
 // Whether a text is a client's number.
 fn is_client(text: &str) -> bool {
-    let has_zeros = text.len() > 1 && text.starts_with("0");
-    !text.is_empty()
-        && text.len() < 10
-        && !has_zeros
-        && text.as_bytes().iter().all(|byte| byte.is_ascii_digit())
+    text.len() < 10 && !text.starts_with("-") && is_number(text)
 }
 
-// What stands after the word `help`, where a line begins with it.
-fn after_help(line: &str) -> Option<&str> {
-    let after = line.strip_prefix("help")?;
-    if after.is_empty() || after.starts_with(" ") {
-        Some(after)
-    } else {
-        None
+// How many bytes the number of a client has that stands before a line and a colon, 0 where none
+// does.
+fn client_length(line: &str) -> usize {
+    match line.find(":") {
+        Some(end) if is_client(line.get(..end).unwrap_or("")) => end,
+        _ => 0,
     }
 }
 
-// The word after a dot with which a line begins.
-fn dotted(line: &str) -> Option<&str> {
-    let end = line.find(" ").unwrap_or(line.len());
-    match line.get(..end) {
-        Some(word) if word.starts_with(".") => Some(word),
-        _ => None,
-    }
+// The client of a number that is written, of at most nine digits.
+fn number_of(client: &str) -> u64 {
+    client.parse::<i64>().unwrap_or(0).unsigned_abs()
+}
+
+// Whether a line begins with the word `help`.
+fn is_help(line: &str) -> bool {
+    line == "help" || line.starts_with("help ")
+}
+
+// The text before the first blank.
+fn first_word(text: &str) -> &str {
+    text.get(..text.find(" ").unwrap_or(text.len()))
+        .unwrap_or("")
 }
 
 // A text without the blanks at its end.
@@ -92,22 +80,35 @@ fn trimmed(text: &str) -> &str {
     text.trim_end_matches(|letter: char| letter.is_ascii_whitespace() || letter == ',')
 }
 
+// What stands in a line from a place on, without the blanks before and after it.
+fn rest_of(line: &str, from: usize) -> &str {
+    let rest = line.get(from..).unwrap_or("");
+    trimmed(rest.get(blanks(rest.as_bytes())..).unwrap_or(""))
+}
+
+// Tells that no line begins with a word, and which one that is near does.
+fn unlike(alloc: Global, at: usize, word: &str, near: &str) -> LineError {
+    let texts = ["no line begins with ", word, "; did you mean ", near, "?"];
+    LineError::said(alloc, at, &texts)
+}
+
 // Tells that no line begins with a word.
 fn unknown(alloc: Global, at: usize, word: &str) -> LineError {
-    let reason = match near_topic(alloc, word) {
-        Ok(Some(near)) => format!(in alloc; "no line begins with {word}; did you mean {near}?"),
-        Ok(None) => format!(in alloc; "no line begins with {word}; help tells what does"),
-        Err(AllocError) => Err(AllocError),
-    };
-    LineError::told(at, reason)
+    match near_topic(alloc, word) {
+        Ok(Some(near)) => unlike(alloc, at, word, near),
+        Ok(None) => {
+            let texts = ["no line begins with ", word, "; help tells what does"];
+            LineError::said(alloc, at, &texts)
+        }
+        Err(error) => LineError::from(error),
+    }
 }
 
 // What is told of the word after `help`, or of all.
 fn help_line(alloc: Global, line: &str, from: usize) -> Result<Line, LineError>
     ensures { IfOk result IsTypedLine }
 {
-    let rest = line.get(from..).unwrap_or("");
-    let word = trimmed(rest.get(blanks(rest.as_bytes())..).unwrap_or(""));
+    let word = rest_of(line, from);
     if word.is_empty() {
         return Ok(Line::Help);
     }
@@ -118,33 +119,41 @@ fn help_line(alloc: Global, line: &str, from: usize) -> Result<Line, LineError>
 }
 
 // The plan that words after a place ask for.
-fn plan_shown(alloc: Global, line: &str, from: usize) -> Result<Show, LineError> {
+fn plan_line(alloc: Global, client: u64, line: &str, from: usize) -> Result<Line, LineError>
+    ensures { IfOk result IsTypedLine }
+{
     let words = words_of(alloc, line, from)?;
     let list = words.as_slice();
     let end = line.len();
-    let mut query = String::new(alloc);
-    push_query(alloc, &mut query, Words { list, end })?;
-    let text = query.as_str().strip_prefix(",").unwrap_or("");
-    Ok(Show::Plan(String::from_str(alloc, text)?))
+    let text = free_text(alloc, Form::Query, Words { list, end })?;
+    Ok(Line::Show(client, Show::Plan(text)))
 }
 
 // The file that stands after `.read`.
-fn read_shown(alloc: Global, from: usize, rest: &str) -> Result<Show, LineError> {
+fn read_line(alloc: Global, client: u64, line: &str, from: usize) -> Result<Line, LineError>
+    ensures { IfOk result IsTypedLine }
+{
+    let rest = rest_of(line, from);
     if rest.is_empty() {
-        return Err(LineError::said(alloc, from, "a file is wanted here"));
+        return Err(LineError::said(alloc, from, &["a file is wanted here"]));
     }
-    Ok(Show::Read(String::from_str(alloc, rest)?))
+    Ok(Line::Show(client, Show::Read(String::from_str(alloc, rest)?)))
 }
 
 // The file and the name of a type that stand after `.import`.
-fn import_shown(alloc: Global, from: usize, rest: &str) -> Result<Show, LineError> {
-    match rest.rsplit_once(" ") {
+fn import_line(alloc: Global, client: u64, line: &str, from: usize) -> Result<Line, LineError>
+    ensures { IfOk result IsTypedLine }
+{
+    match rest_of(line, from).rsplit_once(" ") {
         Some((file, type_name)) => {
             let file = String::from_str(alloc, trimmed(file))?;
             let type_name = String::from_str(alloc, type_name)?;
-            Ok(Show::Import(file, type_name))
+            Ok(Line::Show(client, Show::Import(file, type_name)))
         }
-        None => Err(LineError::said(alloc, from, "a file is wanted here, and a type's name")),
+        None => {
+            let reason = "a file is wanted here, and a type's name";
+            Err(LineError::said(alloc, from, &[reason]))
+        }
     }
 }
 
@@ -153,20 +162,11 @@ fn is_frame(text: &str) -> bool {
     text == "{\"steps\":[" || text == "]}"
 }
 
-// A line of a client that begins with a dot at a place.
-fn dotted_line(alloc: Global, client: u64, line: &str, begin: usize) -> Result<Line, LineError>
+// A line of a client that is a word alone, which begins with a dot at a place.
+fn dotted_alone(alloc: Global, client: u64, begin: usize, word: &str) -> Result<Line, LineError>
     ensures { IfOk result IsTypedLine }
 {
-    let rest = line.get(begin..).unwrap_or("");
-    let word = dotted(trimmed(rest)).unwrap_or("");
-    let from = begin.saturating_add(word.len());
-    let after = line.get(from..).unwrap_or("");
-    let after = trimmed(after.get(blanks(after.as_bytes())..).unwrap_or(""));
     match word {
-        ".plan" => Ok(Line::Show(client, plan_shown(alloc, line, from)?)),
-        ".read" => Ok(Line::Show(client, read_shown(alloc, from, after)?)),
-        ".import" => Ok(Line::Show(client, import_shown(alloc, from, after)?)),
-        _ if !after.is_empty() => Err(LineError::said(alloc, from, "nothing is wanted here")),
         ".schema" => Ok(Line::Show(client, Show::Schema)),
         ".indexes" => Ok(Line::Show(client, Show::Indexes)),
         ".dump" => Ok(Line::Show(client, Show::Dump)),
@@ -176,12 +176,27 @@ fn dotted_line(alloc: Global, client: u64, line: &str, begin: usize) -> Result<L
     }
 }
 
+// A line of a client that begins with a dot at a place.
+fn dotted_line(alloc: Global, client: u64, line: &str, begin: usize) -> Result<Line, LineError>
+    ensures { IfOk result IsTypedLine }
+{
+    let word = first_word(trimmed(line.get(begin..).unwrap_or("")));
+    let from = begin.saturating_add(word.len());
+    match word {
+        ".plan" => plan_line(alloc, client, line, from),
+        ".read" => read_line(alloc, client, line, from),
+        ".import" => import_line(alloc, client, line, from),
+        _ if rest_of(line, from).is_empty() => dotted_alone(alloc, client, begin, word),
+        _ => Err(LineError::said(alloc, from, &["nothing is wanted here"])),
+    }
+}
+
 // The steps that words stand for, the first of which is the verb.
 fn verb_line(alloc: Global, line: &str, client: &str, words: &[Word<'_>]) -> Result<Line, LineError>
     ensures { IfOk result IsTypedLine }
 {
     let [verb, list @ ..] = words else {
-        return Err(LineError::said(alloc, line.len(), "a step of the client is wanted here"));
+        return Err(LineError::said(alloc, line.len(), &["a step of the client is wanted here"]));
     };
     let Some(form) = form_of(verb.text) else {
         return Err(unknown(alloc, verb.at, verb.text));
@@ -190,23 +205,44 @@ fn verb_line(alloc: Global, line: &str, client: &str, words: &[Word<'_>]) -> Res
     Ok(Line::Steps(steps_text(alloc, client, form, verb, Words { list, end })?))
 }
 
+// A line of a client, of the number that a text is, that stands from a place on.
+fn client_line(alloc: Global, line: &str, client: &str, from: usize) -> Result<Line, LineError>
+    ensures { IfOk result IsTypedLine }
+{
+    let place = from.saturating_add(blanks(line.as_bytes().get(from..).unwrap_or(&[])));
+    if byte_at(line, place) == b'.' {
+        return dotted_line(alloc, number_of(client), line, place);
+    }
+    let words = words_of(alloc, line, from)?;
+    verb_line(alloc, line, client, words.as_slice())
+}
+
 // A line of words after the number of a client, or without it.
 fn typed_line(alloc: Global, line: &str, begin: usize) -> Result<Line, LineError>
     ensures { IfOk result IsTypedLine }
 {
     let rest = line.get(begin..).unwrap_or("");
-    if let Some(after) = after_help(rest) {
-        return help_line(alloc, line, line.len().saturating_sub(after.len()));
+    if is_help(rest) {
+        return help_line(alloc, line, begin.saturating_add(4));
     }
-    let (client, length) = client_of(rest);
-    let after = rest.get(length..).unwrap_or("");
-    let from = begin.saturating_add(length);
-    let place = from.saturating_add(blanks(after.as_bytes()));
-    if line.as_bytes().get(place) == Some(&b'.') {
-        return dotted_line(alloc, number_of(client), line, place);
+    let length = client_length(rest);
+    if length == 0 {
+        return client_line(alloc, line, "0", begin);
     }
-    let words = words_of(alloc, line, from)?;
-    verb_line(alloc, line, client, words.as_slice())
+    let client = rest.get(..length).unwrap_or("");
+    client_line(
+        alloc,
+        line,
+        client,
+        begin.saturating_add(length).saturating_add(1),
+    )
+}
+
+// A step in the form of a script.
+fn json_line(alloc: Global, step: &str) -> Result<Line, LineError>
+    ensures { IfOk result IsTypedLine }
+{
+    Ok(Line::Json(String::from_str(alloc, step)?))
 }
 
 /// What a line stands for.
@@ -214,14 +250,12 @@ pub fn line_of(alloc: Global, line: &str) -> Result<Line, LineError>
     ensures { IfOk result IsTypedLine }
 {
     let begin = blanks(line.as_bytes());
-    match line.as_bytes().get(begin) {
-        None | Some(b'#') => Ok(Line::Blank),
-        Some(b'{' | b']') if is_frame(trimmed(line.get(begin..).unwrap_or(""))) => Ok(Line::Blank),
-        Some(b'[') => {
-            let step = trimmed(line.get(begin..).unwrap_or(""));
-            Ok(Line::Json(String::from_str(alloc, step)?))
-        }
-        Some(_) => typed_line(alloc, line, begin),
+    let rest = trimmed(line.get(begin..).unwrap_or(""));
+    match byte_at(line, begin) {
+        b'#' => Ok(Line::Blank),
+        b'{' | b']' if is_frame(rest) => Ok(Line::Blank),
+        b'[' => json_line(alloc, rest),
+        _ => typed_line(alloc, line, begin),
     }
 }
 
@@ -229,9 +263,10 @@ pub fn line_of(alloc: Global, line: &str) -> Result<Line, LineError>
 /// a list, or an object. Else that of the line's first word.
 pub fn place_in_line(line: &str, text: &str, at: usize) -> usize {
     let begin = blanks(line.as_bytes());
-    let bracket = match line.as_bytes().get(begin) {
-        Some(b'[') => "[",
-        _ => "{",
+    let bracket = if byte_at(line, begin) == b'[' {
+        "["
+    } else {
+        "{"
     };
     match (line.find(bracket), text.find(bracket)) {
         (Some(here), Some(there)) if there <= at => here.saturating_add(at - there),

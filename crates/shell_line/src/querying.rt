@@ -1,94 +1,100 @@
 // Queries. Called by `forms`.
-
 use crate::flaw::LineError;
-use crate::word::{Word, WordKind, Words, check_names, cut, name_at, only_object, wanted};
-use crate::writing::{push_names, push_object, push_quoted};
-use std::alloc::{AllocError, Global};
+use crate::word::{Word, WordKind, Words, check_names, wanted};
+use crate::writing::{push_list, push_texts};
+use std::alloc::Global;
 
-// Writes a condition of a word, a field and a cell.
-fn push_compared(
-    out: &mut String,
-    word: &str,
-    field: &Word<'_>,
-    cell: &Word<'_>,
-) -> Result<(), AllocError> {
-    out.push_str("[")?;
-    push_quoted(out, word)?;
-    out.push_str(",")?;
-    push_quoted(out, field.text)?;
-    out.push_str(",")?;
-    out.push_str(cell.text)?;
-    out.push_str("]")
+// Whether a word stands between a field and the cell that it is compared to.
+fn is_sign(word: &Word<'_>) -> bool {
+    word.kind == WordKind::Sign || word.is("starts")
 }
 
-// Writes that a field is null.
-fn push_null(out: &mut String, field: &Word<'_>) -> Result<(), AllocError> {
-    out.push_str("[\"null\",")?;
-    push_quoted(out, field.text)?;
-    out.push_str("]")
+// Whether words are `FIELD SIGN CELL` or `FIELD starts CELL`.
+fn is_comparison(words: Words<'_, '_>) -> bool {
+    words.list.len() == 3 && words.at(0).is_name() && is_sign(&words.at(1)) && words.at(2).is_cell()
 }
 
-// Writes that a field isn't null.
-fn push_some(out: &mut String, field: &Word<'_>) -> Result<(), AllocError> {
-    out.push_str("[\"not\",")?;
-    push_null(out, field)?;
-    out.push_str("]")
+// Whether words are `FIELD is null`.
+fn is_null(words: Words<'_, '_>) -> bool {
+    words.list.len() == 3 && words.at(0).is_name() && words.at(1).is("is") && words.at(2).is("null")
+}
+
+// Whether words are `FIELD is not null`.
+fn is_not_null(words: Words<'_, '_>) -> bool {
+    words.list.len() == 4
+        && words.at(0).is_name()
+        && words.at(1).is("is")
+        && words.at(2).is("not")
+        && words.at(3).is("null")
 }
 
 // Tells what is wrong with a condition.
 fn no_condition(alloc: Global, words: Words<'_, '_>) -> LineError {
-    if let Err(error) = name_at(alloc, words, 0, "a field's name") {
-        return error;
-    }
-    let place = match words.list {
-        [_, sign, ..] if sign.kind == WordKind::Sign || sign.is("starts") => 2,
-        _ => 1,
-    };
-    match words.list {
-        [_, _, cell, ..] if place == 2 && cell.is_cell() => {
-            wanted(alloc, words, 3, "and, or, order or the line's end")
-        }
-        _ if place == 2 => wanted(
-            alloc,
-            words,
-            2,
-            "a number, a text in quotes or {\"hex\":\"..\"}",
-        ),
-        _ => wanted(
+    if !words.at(0).is_name() {
+        wanted(alloc, words, 0, "a field's name")
+    } else if !is_sign(&words.at(1)) {
+        wanted(
             alloc,
             words,
             1,
             "one of = != < <= > >=, starts, is null, is not null",
-        ),
+        )
+    } else if words.at(2).is_cell() {
+        wanted(alloc, words, 3, "and, or, order or the line's end")
+    } else {
+        wanted(
+            alloc,
+            words,
+            2,
+            "a number, a text in quotes or {\"hex\":\"..\"}",
+        )
     }
 }
 
-// Writes a condition: `FIELD SIGN CELL`, `FIELD starts CELL`, `FIELD is null`, `FIELD is not null`,
-// or `not` before one.
-fn push_condition(alloc: Global, out: &mut String, words: Words<'_, '_>) -> Result<(), LineError> {
-    match words.list {
-        [not, rest @ ..] if not.is("not") => {
-            out.push_str("[\"not\",")?;
-            let end = words.end;
-            push_condition(alloc, out, Words { list: rest, end })?;
-            out.push_str("]")?;
-        }
-        [field, is, null] if field.kind == WordKind::Name && is.is("is") && null.is("null") => {
-            push_null(out, field)?;
-        }
-        [field, is, not, null]
-            if field.kind == WordKind::Name && is.is("is") && not.is("not") && null.is("null") => {
-            push_some(out, field)?;
-        }
-        [field, sign, cell]
-            if field.kind == WordKind::Name
-                && (sign.kind == WordKind::Sign || sign.is("starts"))
-                && cell.is_cell() => {
-            push_compared(out, sign.text, field, cell)?;
-        }
-        _ => return Err(no_condition(alloc, words)),
+// Writes a condition that begins with the name of a field.
+fn push_plain(alloc: Global, out: &mut String, words: Words<'_, '_>) -> Result<(), LineError> {
+    let field = words.at(0).text;
+    if is_comparison(words) {
+        let (sign, cell) = (words.at(1).text, words.at(2).text);
+        push_texts(out, &["[\"", sign, "\",\"", field, "\",", cell, "]"])
+    } else if is_null(words) {
+        push_texts(out, &["[\"null\",\"", field, "\"]"])
+    } else if is_not_null(words) {
+        push_texts(out, &["[\"not\",[\"null\",\"", field, "\"]]"])
+    } else {
+        Err(no_condition(alloc, words))
+    }
+}
+
+// Writes a text so many times.
+fn push_times(out: &mut String, text: &str, times: usize) -> Result<(), LineError> {
+    for _ in 0..times {
+        out.push_str(text)?;
     }
     Ok(())
+}
+
+// How many of the first words are `not`.
+fn first_nots(words: &[Word<'_>]) -> usize {
+    words
+        .iter()
+        .position(|word| !word.is("not"))
+        .unwrap_or(words.len())
+}
+
+// Writes a text and a condition: `FIELD SIGN CELL`, `FIELD starts CELL`, `FIELD is null`,
+// `FIELD is not null`, or `not` before one.
+fn push_condition(
+    alloc: Global,
+    out: &mut String,
+    before: &str,
+    words: Words<'_, '_>,
+) -> Result<(), LineError> {
+    let nots = first_nots(words.list);
+    out.push_str(before)?;
+    push_times(out, "[\"not\",", nots)?;
+    push_plain(alloc, out, words.from(nots))?;
+    push_times(out, "]", nots)
 }
 
 // The words of a part of these.
@@ -100,91 +106,104 @@ fn part_of<'w, 'a>(words: Words<'_, '_>, part: &'w [Word<'a>]) -> Words<'w, 'a> 
     Words { list: part, end }
 }
 
-// Writes conditions between which `and` stands, or the only one.
-fn push_all(alloc: Global, out: &mut String, words: Words<'_, '_>) -> Result<(), LineError> {
-    if !words.list.iter().any(|word| word.is("and")) {
-        return push_condition(alloc, out, words);
-    }
-    out.push_str("[\"and\"")?;
-    for part in words.list.split(|word| word.is("and")) {
-        out.push_str(",")?;
-        push_condition(alloc, out, part_of(words, part))?;
-    }
-    out.push_str("]")?;
-    Ok(())
+// Whether a part begins at a place, where words of this name stand between parts.
+fn begins(words: Words<'_, '_>, place: usize, name: &str) -> bool {
+    place == 0 || words.at(place - 1).is(name)
 }
 
-// Writes a filter: conditions between which `and` and `or` stand, where `and` binds more.
-fn push_filter(alloc: Global, out: &mut String, words: Words<'_, '_>) -> Result<(), LineError> {
-    if !words.list.iter().any(|word| word.is("or")) {
-        return push_all(alloc, out, words);
+// The part that begins at a place.
+fn part_from<'w, 'a>(words: Words<'w, 'a>, place: usize, name: &str) -> Words<'w, 'a> {
+    part_of(words, words.from(place).before(name).list)
+}
+
+// Writes a text and conditions between which `and` stands, or the only one.
+fn push_all(
+    alloc: Global,
+    out: &mut String,
+    before: &str,
+    words: Words<'_, '_>,
+) -> Result<(), LineError> {
+    if !words.has("and") {
+        return push_condition(alloc, out, before, words);
     }
-    out.push_str("[\"or\"")?;
-    for part in words.list.split(|word| word.is("or")) {
-        out.push_str(",")?;
-        push_all(alloc, out, part_of(words, part))?;
+    push_texts(out, &[before, "[\"and\""])?;
+    for place in 0..words.list.len() + 1 {
+        if begins(words, place, "and") {
+            push_condition(alloc, out, ",", part_from(words, place, "and"))?;
+        }
     }
-    out.push_str("]")?;
-    Ok(())
+    push_texts(out, &["]"])
+}
+
+// Writes a text and a filter: conditions between which `and` and `or` stand, where `and` binds
+// more.
+fn push_filter(
+    alloc: Global,
+    out: &mut String,
+    before: &str,
+    words: Words<'_, '_>,
+) -> Result<(), LineError> {
+    if !words.has("or") {
+        return push_all(alloc, out, before, words);
+    }
+    push_texts(out, &[before, "[\"or\""])?;
+    for place in 0..words.list.len() + 1 {
+        if begins(words, place, "or") {
+            push_all(alloc, out, ",", part_from(words, place, "or"))?;
+        }
+    }
+    push_texts(out, &["]"])
 }
 
 // Writes what stands after the type: nothing, or `where` and a filter.
 fn push_where(alloc: Global, out: &mut String, words: Words<'_, '_>) -> Result<(), LineError> {
-    match words.list {
-        [] => Ok(()),
-        [first, ..] if first.is("where") => {
-            out.push_str(",\"filter\":")?;
-            push_filter(alloc, out, words.from(1))
-        }
-        _ => Err(wanted(alloc, words, 0, "where, order or the line's end")),
+    if words.list.is_empty() {
+        Ok(())
+    } else if words.at(0).is("where") {
+        push_filter(alloc, out, ",\"filter\":", words.from(1))
+    } else {
+        Err(wanted(alloc, words, 0, "where, order or the line's end"))
     }
 }
 
-// The fields of a sort, and whether its order is turned round.
-fn sorted<'w, 'a>(words: &'w [Word<'a>]) -> (&'w [Word<'a>], bool) {
-    match words {
-        [fields @ .., last] if last.is("desc") => (fields, true),
-        _ => (words, false),
+// The fields of a sort, before `desc` where that is the last word.
+fn sorted<'w, 'a>(words: Words<'w, 'a>) -> Words<'w, 'a> {
+    match words.list {
+        [fields @ .., last] if last.is("desc") => part_of(words, fields),
+        _ => part_of(words, words.list),
     }
 }
 
 // Writes what stands after `order`: `by FIELD .. [desc]`.
 fn push_order(alloc: Global, out: &mut String, words: Words<'_, '_>) -> Result<(), LineError> {
-    match words.list {
-        [first, ..] if first.is("by") => {}
-        _ => return Err(wanted(alloc, words, 0, "by, and the fields of the order,")),
+    if !words.at(0).is("by") {
+        return Err(wanted(alloc, words, 0, "by, and the fields of the order,"));
     }
-    let (fields, is_reverse) = sorted(words.list.get(1..).unwrap_or(&[]));
-    check_names(alloc, part_of(words, fields), "a field's name")?;
-    out.push_str(",\"sort\":[")?;
-    push_names(out, fields)?;
-    out.push_str(if is_reverse {
+    let fields = sorted(words.from(1));
+    check_names(alloc, fields, "a field's name")?;
+    let is_reverse = fields.list.len() + 1 < words.list.len();
+    let after = if is_reverse {
         "],\"reverse\":true"
     } else {
         "]"
-    })?;
-    Ok(())
+    };
+    push_list(out, &[",\"sort\":["], fields.list, &[after])
 }
 
-/// Writes a query: `TYPE [where CONDITION ..] [order by FIELD .. [desc]]`, or the object that it is
-/// in a script.
+/// Writes a query: `TYPE [where CONDITION ..] [order by FIELD .. [desc]]`.
 pub(crate) fn push_query(
     alloc: Global,
     out: &mut String,
     words: Words<'_, '_>,
 ) -> Result<(), LineError> {
-    if let Some(object) = only_object(words.list) {
-        push_object(out, object)?;
-        return Ok(());
+    if !words.at(0).is_name() {
+        return Err(wanted(alloc, words, 0, "a type's name"));
     }
-    let type_name = name_at(alloc, words, 0, "a type's name")?;
-    let (filter, order) = cut(words.from(1), "order");
-    out.push_str(",{\"type\":")?;
-    push_quoted(out, type_name)?;
-    push_where(alloc, out, filter)?;
-    if let Some(order) = order {
-        push_order(alloc, out, order)?;
+    push_texts(out, &["{\"type\":\"", words.at(0).text, "\""])?;
+    let after = words.from(1);
+    push_where(alloc, out, after.before("order"))?;
+    if after.has("order") {
+        push_order(alloc, out, after.after("order"))?;
     }
-    out.push_str("}")?;
-    Ok(())
+    push_texts(out, &["}"])
 }

@@ -3,7 +3,7 @@ use crate::flaw::LineError;
 use std::alloc::Global;
 
 /// What a word is.
-#[derive(Clone, Copy, Debug, PartialEq, Eq, Drop)]
+#[derive(Clone, Copy, PartialEq, Eq, Drop)]
 pub(crate) enum WordKind {
     /// Letters, digits and `_`, with no digit first.
     Name,
@@ -15,10 +15,12 @@ pub(crate) enum WordKind {
     Object,
     /// A sign that compares.
     Sign,
+    /// No word: the line's end, or what begins no word.
+    Nothing,
 }
 
 /// A word as it is written, and its place in the line.
-#[derive(Clone, Copy, Debug, Drop)]
+#[derive(Clone, Copy, Drop)]
 pub(crate) struct Word<'a> {
     pub kind: WordKind,
     pub text: &'a str,
@@ -32,7 +34,27 @@ pub(crate) struct Words<'w, 'a> {
     pub end: usize,
 }
 
+// The place of the first word of this name, and their number where none is of it.
+fn place_of(words: &[Word<'_>], name: &str) -> usize {
+    words
+        .iter()
+        .position(|word| word.is(name))
+        .unwrap_or(words.len())
+}
+
 impl<'w, 'a> Words<'w, 'a> {
+    /// The word at a place, which is none at the line's end.
+    pub(crate) fn at(self, place: usize) -> Word<'a> {
+        match self.list.get(place) {
+            Some(word) => *word,
+            None => Word {
+                kind: WordKind::Nothing,
+                text: "",
+                at: self.end,
+            },
+        }
+    }
+
     /// Those from a place on.
     pub(crate) fn from(self, place: usize) -> Words<'w, 'a> {
         let first = place.min(self.list.len());
@@ -40,6 +62,25 @@ impl<'w, 'a> Words<'w, 'a> {
             list: &self.list[first..],
             end: self.end,
         }
+    }
+
+    /// Whether one of them is of this name.
+    pub(crate) fn has(self, name: &str) -> bool {
+        place_of(self.list, name) < self.list.len()
+    }
+
+    /// Those before the first of this name, or all.
+    pub(crate) fn before(self, name: &str) -> Words<'w, 'a> {
+        let place = place_of(self.list, name);
+        Words {
+            list: self.list.get(..place).unwrap_or(self.list),
+            end: self.at(place).at,
+        }
+    }
+
+    /// Those after the first of this name.
+    pub(crate) fn after(self, name: &str) -> Words<'w, 'a> {
+        self.from(place_of(self.list, name).saturating_add(1))
     }
 }
 
@@ -49,48 +90,28 @@ impl<'a> Word<'a> {
         self.kind == WordKind::Name && self.text == name
     }
 
+    /// Whether it is a name.
+    pub(crate) fn is_name(&self) -> bool {
+        self.kind == WordKind::Name
+    }
+
     /// Whether it may stand for a cell: a number, a text, bytes, or null.
     pub(crate) fn is_cell(&self) -> bool {
         match self.kind {
             WordKind::Number | WordKind::Text | WordKind::Object => true,
             WordKind::Name => self.text == "null",
-            WordKind::Sign => false,
+            WordKind::Sign | WordKind::Nothing => false,
         }
     }
 }
 
 /// Tells that something else is wanted at the place of a word, or at the line's end.
 pub(crate) fn wanted(alloc: Global, words: Words<'_, '_>, place: usize, what: &str) -> LineError {
-    match words.list.get(place) {
-        Some(word) => {
-            let text = word.text;
-            LineError::told(
-                word.at,
-                format!(in alloc; "{what} is wanted here, not {text}"),
-            )
-        }
-        None => LineError::told(words.end, format!(in alloc; "{what} is wanted here")),
-    }
-}
-
-/// The object that is the only word, where it is one.
-pub(crate) fn only_object<'a>(words: &[Word<'a>]) -> Option<&'a str> {
-    match words {
-        [word] if word.kind == WordKind::Object => Some(word.text),
-        _ => None,
-    }
-}
-
-/// The name at a place.
-pub(crate) fn name_at<'a>(
-    alloc: Global,
-    words: Words<'_, 'a>,
-    place: usize,
-    what: &str,
-) -> Result<&'a str, LineError> {
-    match words.list.get(place) {
-        Some(word) if word.kind == WordKind::Name => Ok(word.text),
-        _ => Err(wanted(alloc, words, place, what)),
+    let word = words.at(place);
+    if word.kind == WordKind::Nothing {
+        LineError::said(alloc, word.at, &[what, " is wanted here"])
+    } else {
+        LineError::said(alloc, word.at, &[what, " is wanted here, not ", word.text])
     }
 }
 
@@ -101,22 +122,9 @@ pub(crate) fn check_names(
     what: &str,
 ) -> Result<(), LineError> {
     for place in 0..words.list.len().max(1) {
-        name_at(alloc, words, place, what)?;
+        if !words.at(place).is_name() {
+            return Err(wanted(alloc, words, place, what));
+        }
     }
     Ok(())
-}
-
-/// The words before the first of this name, and those after it where there is one.
-pub(crate) fn cut<'w, 'a>(
-    words: Words<'w, 'a>,
-    name: &str,
-) -> (Words<'w, 'a>, Option<Words<'w, 'a>>) {
-    let Some(place) = words.list.iter().position(|word| word.is(name)) else {
-        return (words, None);
-    };
-    let before = Words {
-        list: &words.list[..place],
-        end: words.list[place].at,
-    };
-    (before, Some(words.from(place.saturating_add(1))))
 }

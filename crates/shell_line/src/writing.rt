@@ -1,71 +1,77 @@
 // Parts of JSON, written from words. Called by `forms`, `defining` and `querying`.
 ghost use Rattle.std.specs.Prelude.{◌≡◌, ◌++◌, OnOk, map, string_bytes};
-ghost use Rattle.std.specs.List.{join_with_byte};
-ghost use Rattle.shell_line.specs.Said.{comma_at, in_quotes, step_begin, word_text};
+ghost use Rattle.std.specs.List.{flat_map, join_with_byte};
+ghost use Rattle.shell_line.specs.Said.{comma_at, step_begin, word_text};
 
+use crate::flaw::LineError;
 use crate::word::Word;
-use std::alloc::AllocError;
 
-/// Writes a name in quotes.
-pub(crate) fn push_quoted(out: &mut String, name: &str) -> Result<(), AllocError>
-    ensures { OnOk result (string_bytes out.new ≡ string_bytes out.old ++ in_quotes name.now) }
+/// Writes texts, one after another.
+pub(crate) fn push_texts(out: &mut String, texts: &[&str]) -> Result<(), LineError>
+    ensures { OnOk result (string_bytes out.new
+        ≡ string_bytes out.old ++ flat_map (λ text. text.now) texts.now) }
 {
-    out.push_str("\"")?;
-    out.push_str(name)?;
-    out.push_str("\"")
-}
-
-/// Writes a comma before each part but the first.
-pub(crate) fn push_comma(out: &mut String, index: usize) -> Result<(), AllocError>
-    ensures { OnOk result (string_bytes out.new ≡ string_bytes out.old ++ comma_at index) }
-{
-    if index > 0 {
-        out.push_str(",")?;
+    for text in texts {
+        out.push_str(text)?;
     }
     Ok(())
 }
 
-// Writes a word as it is.
-fn push_written(out: &mut String, word: &Word<'_>) -> Result<(), AllocError>
-    ensures { OnOk result (string_bytes out.new ≡ string_bytes out.old ++ word_text word.now) }
+/// The comma before each part but the first.
+pub(crate) fn comma_before(index: usize) -> &'static str
+    ensures { result.now ≡ comma_at index }
 {
-    out.push_str(word.text)
+    if index > 0 { "," } else { "" }
+}
+
+// Writes a text, and a word as it is.
+fn push_written(out: &mut String, before: &str, word: &Word<'_>) -> Result<(), LineError>
+    ensures { OnOk result (string_bytes out.new
+        ≡ string_bytes out.old ++ (before.now ++ word_text word.now)) }
+{
+    push_texts(out, &[before, word.text])
 }
 
 /// Writes words as they are, with a comma between each two.
-pub(crate) fn push_joined(out: &mut String, words: &[Word<'_>]) -> Result<(), AllocError>
+pub(crate) fn push_joined(out: &mut String, words: &[Word<'_>]) -> Result<(), LineError>
     ensures { OnOk result (string_bytes out.new
         ≡ string_bytes out.old ++ join_with_byte 44 (map word_text words.now)) }
 {
-    for (index, word) in words.iter().enumerate() {
-        push_comma(out, index)?;
-        push_written(out, word)?;
+    for index in 0..words.len() {
+        push_written(out, comma_before(index), &words[index])?;
     }
     Ok(())
 }
 
-/// Writes words in quotes, with a comma between each two.
-pub(crate) fn push_names(out: &mut String, words: &[Word<'_>]) -> Result<(), AllocError> {
-    for (index, word) in words.iter().enumerate() {
-        push_comma(out, index)?;
-        push_quoted(out, word.text)?;
+// Writes a text, and a word in quotes.
+fn push_quoted(out: &mut String, before: &str, word: &Word<'_>) -> Result<(), LineError> {
+    push_texts(out, &[before, "\"", word.text, "\""])
+}
+
+// Writes words in quotes, with a comma between each two.
+fn push_names(out: &mut String, words: &[Word<'_>]) -> Result<(), LineError> {
+    for index in 0..words.len() {
+        push_quoted(out, comma_before(index), &words[index])?;
     }
     Ok(())
+}
+
+/// Writes words in quotes, with a comma between each two, between other texts.
+pub(crate) fn push_list(
+    out: &mut String,
+    before: &[&str],
+    words: &[Word<'_>],
+    after: &[&str],
+) -> Result<(), LineError> {
+    push_texts(out, before)?;
+    push_names(out, words)?;
+    push_texts(out, after)
 }
 
 /// Writes what a step of a client begins with.
-pub(crate) fn push_opened(out: &mut String, verb: &str, client: &str) -> Result<(), AllocError>
+pub(crate) fn push_opened(out: &mut String, verb: &str, client: &str) -> Result<(), LineError>
     ensures { OnOk result (string_bytes out.new
         ≡ string_bytes out.old ++ step_begin verb.now client.now) }
 {
-    out.push_str("[")?;
-    push_quoted(out, verb)?;
-    out.push_str(",")?;
-    out.push_str(client)
-}
-
-/// Writes an object as it is written.
-pub(crate) fn push_object(out: &mut String, object: &str) -> Result<(), AllocError> {
-    out.push_str(",")?;
-    out.push_str(object)
+    push_texts(out, &["[\"", verb, "\",", client])
 }
