@@ -40,4 +40,5 @@ pub use record_ref::RecordRef;
 pub use refusal::{MetadataError, Refusal};
 pub use schema::{MAX_FIELDS, MAX_KEY_FIELDS, MAX_TYPES, Schema};
 pub use stored::records_are_stored_once;
+pub use unpacking::unpack_cell;
 pub use written::{schemas_are_written_once, schemas_stay_lawful};

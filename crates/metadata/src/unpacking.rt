@@ -1,5 +1,5 @@
 // Cells that are read from bytes and from tuples, or skipped in bytes. Used by `stored`, and by
-// `plan_exec` and `json_forms`.
+// `packed_rows`, `plan_exec` and `json_forms`.
 ghost use Rattle.std.specs.Prelude.{◌≡◌, ◌<◌, ℕ, List, IfOk, IfSome, length};
 ghost use Rattle.std.specs.Option.{IfNone};
 ghost use Rattle.tuple_codec.specs.Elements.{item_in};
@@ -34,9 +34,10 @@ fn cell_in(element: Element) -> Option<Cell>
     }
 }
 
-// The cell that the bytes begin with, and the bytes behind it. None where they begin with none.
+/// The cell that the bytes begin with, as the pack of several cells does, and the bytes after it.
+/// None where they begin with none.
 #[inline(always)]
-fn unpack_cell(alloc: Global, bytes: &[u8]) -> Result<Option<(Cell, &[u8])>, AllocError>
+pub fn unpack_cell(alloc: Global, bytes: &[u8]) -> Result<Option<(Cell, &[u8])>, AllocError>
     ensures first { IfOk result (λ found. IfSome found (λ x. BeginsWithCell x.0 x.1.now bytes.now)) }
     ensures none { IfOk result (λ found. IfNone found
         ((cell : CellValue) (rest : List ℕ) → BeginsWithCell cell rest bytes.now → ⊥)) }
