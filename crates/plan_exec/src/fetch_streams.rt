@@ -1,6 +1,7 @@
 // Records that are given one by one while they are fetched by entries. Used by `rows` and `opening`.
-ghost use Rattle.std.specs.Prelude.{[], IfErr, IfOk, Some};
+ghost use Rattle.std.specs.Prelude.{[], IfErr, IfOk, Some, true};
 ghost use Rattle.plan_exec.specs.Course.{record_course};
+ghost use Rattle.plan_exec.specs.Packing.{HasPacked};
 ghost use Rattle.plan_exec.specs.Sources.{source_left};
 ghost use Rattle.plan_exec.specs.Streams.{HasGiven, HasNotGiven, records_fetched};
 
@@ -9,10 +10,12 @@ use crate::error::ExecError;
 use crate::joined::next_joined;
 use crate::keys::record_key;
 use crate::level::Level;
+use crate::packing::push_record;
 use crate::readers::RecordsOf;
 use crate::record_streams::{EntryStream, record_of};
 use crate::streams::Stream;
 use metadata::Record;
+use packed_rows::Rows;
 use txn::{Snapshot, Transaction};
 
 /// The entries by which a fetch finds its records.
@@ -67,11 +70,66 @@ fn fetch_record<S: Snapshot>(
     }
 }
 
+// Reads the record of an entry, and adds its cells.
+fn fetch_packed<S: Snapshot>(
+    records: &RecordsOf<'_>,
+    tx: &mut Transaction,
+    db: &S,
+    entry: &Entry,
+    given: &mut Rows,
+) -> Result<(), ExecError>
+    ensures packed { IfOk result (λ _. HasPacked (S.map_at db.now)
+        (λ pairs. record_course records.now.store.now.prefix pairs records.now.definition.value
+        entry.now)
+        given.old true given.new (λ pairs. []) tx.old tx.new) }
+    ensures stopped { IfErr result (λ error. HasNotGiven (S.map_at db.now) (S.may_refuse db.now)
+        (λ pairs. record_course records.now.store.now.prefix pairs records.now.definition.value
+        entry.now)
+        error tx.old tx.new) }
+{
+    let key = record_key(records.store, records.front.as_slice(), entry)?;
+    match tx.get(db, &key)? {
+        Some(value) => {
+            push_record(records, &(key, value), given)?;
+            Ok(())
+        }
+        None => Err(ExecError::Corrupt(entry.key().copy()?)),
+    }
+}
+
 /// The records of a source's entries.
 #[derive(Drop)]
 pub(crate) struct FetchStream<'a> {
     pub(crate) entries: SourceStream<'a>,
     pub(crate) records: &'a RecordsOf<'a>,
+}
+
+impl FetchStream<'_> {
+    /// Adds the cells of the next record to those that were given, and tells whether there was one.
+    pub(crate) fn next_packed<S: Snapshot>(
+        &mut self,
+        tx: &mut Transaction,
+        db: &S,
+        given: &mut Rows,
+    ) -> Result<bool, ExecError>
+        ensures packed { IfOk result (λ more. HasPacked (S.map_at db.now)
+            (λ pairs. records_fetched self.old.records.now pairs
+            (source_left self.old.entries pairs)) given.old more given.new
+            (λ pairs. records_fetched self.new.records.now pairs
+            (source_left self.new.entries pairs)) tx.old tx.new) }
+        ensures stopped { IfErr result (λ error. HasNotGiven (S.map_at db.now)
+            (S.may_refuse db.now)
+            (λ pairs. records_fetched self.old.records.now pairs
+            (source_left self.old.entries pairs)) error tx.old tx.new) }
+    {
+        match self.entries.next(tx, db)? {
+            Some(entry) => {
+                fetch_packed(self.records, tx, db, &entry, given)?;
+                Ok(true)
+            }
+            None => Ok(false),
+        }
+    }
 }
 
 // The record of each entry is read once this is given.
