@@ -1,0 +1,8 @@
+use Rattle.std.proofs.Common.{◌∙◌, ◌==◌, ℕ, ap, length}
+use Rattle.packed_rows.proofs.Pieces.{length-ends}
+use Rattle.packed_rows.proofs.rows.Rows.is_empty.Goals as goal
+
+pub returns : goal.returns
+returns c =
+    let f = c.self.inside in
+    c.is_empty.ensures ∙ ap (λ (n : ℕ). n == 0) (f.ends.ok.0 ∙ length-ends f.bytes.items f.ends.items f.kept ∙ ap length c.self.view_is)

@@ -1,0 +1,6 @@
+//! The rows of an answer, as packs one after another.
+#![tactic(auto)]
+
+mod rows;
+
+pub use rows::Rows;
