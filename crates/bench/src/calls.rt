@@ -1,7 +1,7 @@
 // A work that is done by calls of `schedule`, as a service does it that embeds it: lines, done one
 // after another. Called by `main` for `bench calls`.
 use crate::call_lines::step_of;
-use crate::call_rows::write_row;
+use crate::call_rows::{write_pack, write_row};
 use crate::call_store::begun;
 use schedule::{Reply, Schedule};
 use std::alloc::Global;
@@ -9,12 +9,14 @@ use std::io::{self, BufWriter, Read, Write};
 use std::{mem, str};
 
 // Prints the records that a step has found. None where it is refused.
-fn write_found<W: Write>(output: &mut W, reply: &Reply) -> io::Result<Option<()>> {
+fn write_found<W: Write>(alloc: Global, output: &mut W, reply: &Reply) -> io::Result<Option<()>> {
     match reply {
         Reply::Found(cells) => write_row(output, cells)?,
         Reply::Rows(rows) => {
-            for cells in rows.as_slice() {
-                write_row(output, cells)?;
+            for place in 0..rows.len() {
+                if let Some(pack) = rows.pack_at(place) {
+                    write_pack(alloc, output, pack)?;
+                }
             }
         }
         Reply::Refused(_) => return Ok(None),
@@ -34,7 +36,7 @@ fn done<W: Write>(
         return Ok(None);
     };
     let (schedule, reply) = schedule.step(alloc, &step)?;
-    match write_found(output, &reply)? {
+    match write_found(alloc, output, &reply)? {
         Some(()) => Ok(Some(schedule)),
         None => Ok(None),
     }

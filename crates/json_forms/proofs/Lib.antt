@@ -8,4 +8,5 @@ pub mod Keys
 pub mod Filters
 pub mod Values
 pub mod RowTexts
+pub mod Packed
 pub mod InTurn

@@ -55,6 +55,16 @@ begun_more one xs i x old mid new within is begun written = (
   written.1 ∙ begun.1,
 )
 
+-- one thing more after those that are a list by themselves
+pub begun_push : {A : Type 0} (one : A → Json) (xs : List A) (x : A) (old mid new : Written) →
+    IsListBegun one xs old mid → AreTokensWritten (one x) mid new → IsListBegun one (xs ++ x ∷ []) old new
+begun_push one xs x old mid new begun written = (
+  written.0 ∙ ap (λ ts. ts ++ json_tokens (one x)) begun.0
+      ∙ append_assoc old.tokens (Token.begin_array ∷ flat_map (λ x. json_tokens (one x)) xs) (json_tokens (one x))
+      ∙ ap (λ ts. old.tokens ++ Token.begin_array ∷ ts) (sym (flat_map-push (λ x. json_tokens (one x)) xs x)),
+  written.1 ∙ begun.1,
+)
+
 -- what holds of the things so far holds of one more
 pub known_more : {A : Type 0} (P : A → Type 0) (xs : List A) (i : ℕ) (x : A) → i < length xs → x ≡ get_or xs i x → P x → All P (take i xs) → All P (take (i + 1) xs)
 known_more P xs i x within is known so_far = All-more P xs i x within so_far (subst P is known)

@@ -21,10 +21,10 @@ use Rattle.metadata.specs.Layout.{Pair}
 use Rattle.plan_exec.specs.Course.{batches_course, finds, reads}
 use Rattle.plan_exec.specs.Errors.{exec_read}
 use Rattle.plan_exec.specs.Reads.{batches, pairs_within}
-use Rattle.plan_exec.specs.Streams.{HasGiven, HasNotGiven, left_course, pair_at, pair_course}
+use Rattle.plan_exec.specs.Streams.{HasGiven, HasNotGiven, HasOnlyRead, left_course, pair_at, pair_course}
 use Rattle.plan_exec.specs.declared.streams.PairStream.{PairStream}
 use Rattle.plan_exec.proofs.InBatches.{IsFirstOf, batch_ran, batch_read, batches_behind, fewer_left, first_batch, left_count}
-use Rattle.plan_exec.proofs.Streaming.{AsksFirst, HasGone, gone_not, gone_still, gone_then, not_memory, not_read, ran_here, same_seen}
+use Rattle.plan_exec.proofs.Streaming.{AsksFirst, gone_not, gone_still, gone_then, not_memory, not_read, ran_here, same_seen}
 
 -- the pairs of a range, in one direction
 within : (m : Map) (reversed : Bool) (range : KeyRange) → directed reversed (pairs_in m range) ≡ pairs_within range reversed (entries m)
@@ -60,7 +60,7 @@ module _ (m : Map) (reversed : Bool) (range : KeyRange) where
 
 module _ {maps : ℕ → Map} {mid read : CommitRequest} {cursor next : RangeCursor} {batch : List Pair} (one : HasBatch maps cursor batch next mid read) where
   -- GONE: a batch was read
-  pub batch_gone : HasGone maps (left_course cursor) (λ pairs. map (λ pair. finds pair) batch ++ left_course next pairs) mid read
+  pub batch_gone : HasOnlyRead maps (left_course cursor) (λ pairs. map (λ pair. finds pair) batch ++ left_course next pairs) mid read
   batch_gone = record {
     added = range_read one.range BATCH cursor.reverse batch ∷ [];
     ran = ran_because (batch_ran one) (λ m first. (
@@ -99,10 +99,10 @@ module _ (stream : PairStream) (used : length stream.batch.items ≤ stream.plac
   stream_left pairs = ap (λ batch. map (λ pair. finds pair) batch ++ left_course stream.cursor pairs) (drop_all stream.place stream.batch.items used)
 
   -- GONE: a batch was read for the stream
-  pub stream_gone : {maps : ℕ → Map} {mid read : CommitRequest} (next : PairStream) (batch : List Pair) → HasBatch maps stream.cursor batch next.cursor mid read → drop next.place next.batch.items ≡ batch → HasGone maps (pair_course stream) (pair_course next) mid read
+  pub stream_gone : {maps : ℕ → Map} {mid read : CommitRequest} (next : PairStream) (batch : List Pair) → HasBatch maps stream.cursor batch next.cursor mid read → drop next.place next.batch.items ≡ batch → HasOnlyRead maps (pair_course stream) (pair_course next) mid read
   stream_gone {maps = maps} {mid = mid} {read = read} next batch one is =
       gone_then (gone_still (pair_course stream) (left_course stream.cursor) (λ m. stream_left (entries m)) refl)
-      (subst (λ items. HasGone maps (left_course stream.cursor) (λ pairs. map (λ pair. finds pair) items ++ left_course next.cursor pairs) mid read) (sym is) (batch_gone one))
+      (subst (λ items. HasOnlyRead maps (left_course stream.cursor) (λ pairs. map (λ pair. finds pair) items ++ left_course next.cursor pairs) mid read) (sym is) (batch_gone one))
 
   -- NOT GIVEN: it wasn't
   pub stream_not : {maps : ℕ → Map} {refuses : KeyRange → ℕ → ReadError → Type 0} {mid new : CommitRequest} (error : ReadError) → new ≡ mid → IsNoBatch refuses stream.cursor mid.read_version error →

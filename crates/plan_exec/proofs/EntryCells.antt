@@ -57,7 +57,7 @@ module _ (bytes rest : List ℕ) (cell : Cell) (begins : BeginsWithCell cell res
           let begun = read.only all ((cells_back bytes all).0 is) in
           absurd (none-some begun.others (sym others ∙ (cells_back rest begun.others).1 begun.left))
 
-no_bytes : unpack [] ≡ Some []
+pub no_bytes : unpack [] ≡ Some []
 no_bytes = (cells_back [] []).1 record { cells = All-nil IsCell; has_value = refl }
 
 no_cells : (bytes : List ℕ) → unpack bytes ≡ Some [] → length bytes ≡ 0

@@ -1,5 +1,5 @@
 -- What the call that executes a plan establishes, from what its steps do.
-use Rattle.std.specs.Prelude.{◌≡◌, ℕ, List, [], Option, Some, None, Result, Ok, Err, refl}
+use Rattle.std.specs.Prelude.{◌≡◌, ℕ, List, [], Some, None, Result, Ok, Err, refl}
 use Rattle.std.specs.FinMap.{entries}
 use Rattle.std.specs.Result.{result_err, result_ok}
 use Rattle.std.proofs.Common.{ap, sym, ◌∙◌, subst}
@@ -44,7 +44,8 @@ use Rattle.plan_exec.proofs.Answers.{answers}
 use Rattle.plan_exec.proofs.CourseMeanings.{node_course_ok}
 use Rattle.plan_exec.proofs.Meanings.{no_rows}
 use Rattle.plan_exec.proofs.Pairs.{rise_of}
-use Rattle.plan_exec.proofs.Taken.{Begins, HasEndedBehind, HasGivenUntil, none_taken}
+use Rattle.plan_exec.proofs.Streaming.{not_memory}
+use Rattle.plan_exec.proofs.Taken.{Begins, HasEndedBehind, HasGivenUntil, none_taken, taken_none, taken_stopped}
 
 -- what is found where there is something
 ok_by : {A E : Type 0} (r : Result A E) (a : A) → result_ok r ≡ Some a → r ≡ Ok a
@@ -170,3 +171,6 @@ module _ (opened : Opened) (plan : AskedPlan) (t : TypeDefinition) (accepted : A
   -- MEMORY was wanting before anything was read
   pub memory_first : (maps : ℕ → Map) (refuses : KeyRange → ℕ → ReadError → Type 0) (request : CommitRequest) → IsGivenBefore maps refuses opened plan [] exec_memory request request
   memory_first maps refuses request = given_before [] exec_memory refl (none_taken plan_course)
+
+  pub refused_first : (maps : ℕ → Map) (refuses : KeyRange → ℕ → ReadError → Type 0) (request : CommitRequest) → IsExecutionRefused maps refuses opened plan exec_memory request request
+  refused_first maps refuses request = refused exec_memory refl (taken_stopped [] exec_memory (taken_none plan_course) (not_memory plan_course refl))

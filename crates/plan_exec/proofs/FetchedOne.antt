@@ -18,17 +18,17 @@ use Rattle.plan_exec.specs.Course.{found_or, reads, record_course, record_there}
 use Rattle.plan_exec.specs.Decoding.{IsDamage}
 use Rattle.plan_exec.specs.Errors.{exec_read}
 use Rattle.plan_exec.specs.Reads.{or_damaged}
-use Rattle.plan_exec.specs.Streams.{HasGiven, HasNotGiven}
+use Rattle.plan_exec.specs.Streams.{HasGiven, HasNotGiven, HasOnlyRead}
 use Rattle.plan_exec.specs.Entry.{Entry}
 use Rattle.plan_exec.specs.declared.error.ExecError.{ExecError}
 use Rattle.plan_exec.specs.declared.error.ExecError.TheVariants.{Corrupt}
 use Rattle.plan_exec.proofs.SingleReads.{read_value}
-use Rattle.plan_exec.proofs.Streaming.{HasGone, damaged_not, found_given, gone_given, gone_not, gone_still, not_read}
+use Rattle.plan_exec.proofs.Streaming.{damaged_not, found_given, gone_given, gone_not, gone_still, not_read}
 
 module _ {maps : ℕ → Map} (prefix : List ℕ) (t : TypeDefinition) (entry : Entry) {old new : CommitRequest} (key : List ℕ) (is : key ≡ record_key prefix (items_of entry.primary_key)) where
   -- READ: what stands at the record's key
   pub value_gone : (value : Option (List ℕ)) → new ≡ has_read (point key) old → ((m : Map) → Agree new.reads (maps old.read_version) m → value ≡ get (seen old m) key) →
-      HasGone maps (λ pairs. record_course prefix pairs t entry) (λ pairs. record_there prefix pairs t entry value) old new
+      HasOnlyRead maps (λ pairs. record_course prefix pairs t entry) (λ pairs. record_there prefix pairs t entry value) old new
   value_gone value has answer =
       let at = record_key prefix (items_of entry.primary_key) in
       record {
@@ -46,9 +46,9 @@ module _ {maps : ℕ → Map} (prefix : List ℕ) (t : TypeDefinition) (entry : 
       not_read (λ pairs. record_course prefix pairs t entry) (point key) error
       (λ m. (record { asked = point (record_key prefix (items_of entry.primary_key)); added = point (record_key prefix (items_of entry.primary_key)) }, _, refl, ap point (sym is))) same says
 
-  module _ (value : List ℕ) (gone : HasGone maps (λ pairs. record_course prefix pairs t entry) (λ pairs. record_there prefix pairs t entry (Some value)) old new) where
+  module _ (value : List ℕ) (gone : HasOnlyRead maps (λ pairs. record_course prefix pairs t entry) (λ pairs. record_there prefix pairs t entry (Some value)) old new) where
     -- as a record that is decoded
-    found_gone : HasGone maps (λ pairs. record_there prefix pairs t entry (Some value)) (λ pairs. found_or key (stored_record prefix t (key, value)) ++ []) new new
+    found_gone : HasOnlyRead maps (λ pairs. record_there prefix pairs t entry (Some value)) (λ pairs. found_or key (stored_record prefix t (key, value)) ++ []) new new
     found_gone = gone_still (λ pairs. record_there prefix pairs t entry (Some value)) (λ pairs. found_or key (stored_record prefix t (key, value)) ++ [])
         (λ m. sym (append-nil (found_or (record_key prefix (items_of entry.primary_key)) (stored_record prefix t (record_key prefix (items_of entry.primary_key), value))))
         ∙ ap (λ k. found_or k (stored_record prefix t (k, value)) ++ []) (sym is)) refl
@@ -62,6 +62,6 @@ module _ {maps : ℕ → Map} (prefix : List ℕ) (t : TypeDefinition) (entry : 
     row_not e says = gone_not gone (gone_not found_gone (damaged_not key (stored_record prefix t (key, value)) e (λ pairs. []) says))
 
 -- NOT GIVEN: nothing stands at the record's key
-pub none_not : {maps : ℕ → Map} {refuses : KeyRange → ℕ → ReadError → Type 0} (prefix : List ℕ) (t : TypeDefinition) (entry : Entry) {old new : CommitRequest} → HasGone maps (λ pairs. record_course prefix pairs t entry) (λ pairs. record_there prefix pairs t entry None) old new →
+pub none_not : {maps : ℕ → Map} {refuses : KeyRange → ℕ → ReadError → Type 0} (prefix : List ℕ) (t : TypeDefinition) (entry : Entry) {old new : CommitRequest} → HasOnlyRead maps (λ pairs. record_course prefix pairs t entry) (λ pairs. record_there prefix pairs t entry None) old new →
     HasNotGiven maps refuses (λ pairs. record_course prefix pairs t entry) (Corrupt entry.key) old new
 none_not prefix t entry gone = gone_not gone (damaged_not {A = Record} entry.key None (Corrupt entry.key) (λ pairs. []) refl)

@@ -16,10 +16,10 @@ use Rattle.metadata.specs.Order.{cells_cmp}
 use Rattle.plan_exec.specs.Course.{Course, fails, finds, first_course, kept_course, reads}
 use Rattle.plan_exec.specs.Errors.{exec_memory}
 use Rattle.plan_exec.specs.Reads.{PlanRead}
-use Rattle.plan_exec.specs.Streams.{HasGiven, HasNotGiven, StopsHere, reads_then}
+use Rattle.plan_exec.specs.Streams.{HasGiven, HasNotGiven, HasOnlyRead, StopsHere, reads_then}
 use Rattle.plan_exec.specs.declared.error.ExecError.{ExecError}
 use Rattle.plan_exec.specs.declared.error.ExecError.TheVariants.{OtherSchema, IndexNotReadable, Read, Corrupt, Memory}
-use Rattle.plan_exec.proofs.Streaming.{HasGone, each_none, each_not, each_then, stops_each}
+use Rattle.plan_exec.proofs.Streaming.{each_none, each_not, each_then, stops_each}
 
 -- ---- what is kept
 
@@ -102,7 +102,7 @@ module _ {A : Type 0} (key : A → List Cell) where
       }
 
       -- GONE: it isn't
-      pub fresh_gone : is_new seen a ≡ false → HasGone maps (λ pairs. fresh seen (before pairs)) (λ pairs. fresh now (after pairs)) old new
+      pub fresh_gone : is_new seen a ≡ false → HasOnlyRead maps (λ pairs. fresh seen (before pairs)) (λ pairs. fresh now (after pairs)) old new
       fresh_gone is = record {
         added = one.added;
         ran = ran_because one.ran (λ m (done, is_added, so). (

@@ -9,6 +9,7 @@ pub mod ReadAs
 pub mod KeyRanges
 pub mod EntryNumbers
 pub mod EntryCells
+pub mod Pieces
 pub mod EntryPacks
 pub mod SingleReads
 pub mod InOrder
@@ -22,6 +23,7 @@ pub mod Streaming
 pub mod BatchCourses
 pub mod FetchedOne
 pub mod Taken
+pub mod Packed
 pub mod CoursesFound
 pub mod AllJoined
 pub mod CourseMeanings

@@ -20,7 +20,7 @@ use Rattle.plan_exec.specs.Decoding.{IsDamage}
 use Rattle.plan_exec.specs.Errors.{exec_memory, exec_read}
 use Rattle.plan_exec.specs.Executing.{HasStopped, IsExecutionStopped, ranges_added, ranges_asked}
 use Rattle.plan_exec.specs.Reads.{PlanRead, PlanReading, or_damaged, read_first}
-use Rattle.plan_exec.specs.Streams.{GoesOn, HasGiven, HasNotGiven, StopsHere, reads_then}
+use Rattle.plan_exec.specs.Streams.{GoesOn, HasGiven, HasNotGiven, HasOnlyRead, StopsHere, reads_then}
 use Rattle.plan_exec.specs.declared.error.ExecError.{ExecError}
 use Rattle.plan_exec.specs.declared.error.ExecError.TheVariants.{OtherSchema, IndexNotReadable, Read, Corrupt, Memory}
 use Rattle.plan_exec.proofs.Composing.{stop_second}
@@ -97,20 +97,13 @@ AsksFirst range course = (first : PlanRead) × (rest : Course _) × (course ≡ 
 err_same : {A : Type 0} {key other : List ℕ} → (let r : Result A (List ℕ) = Err key in r) ≡ Err other → key ≡ other
 err_same is = cc
 
--- a stream went on by reads alone
-pub record HasGone {A : Type 0} (maps : ℕ → Map) (before after : List Pair → Course A) (old new : CommitRequest) : Type 0 where
-  pub added : List KeyRange
-  pub ran :
-      DidRead maps added old new
-      (λ m. (done : List PlanRead) × (added ≡ ranges_added done) × (before (entries m) ≡ reads_then done (after (entries m))))
-
 module _ {maps : ℕ → Map} {A : Type 0} where
   -- STILL: nothing was read
-  pub gone_still : {old new : CommitRequest} (before after : List Pair → Course A) → ((m : Map) → before (entries m) ≡ after (entries m)) → new ≡ old → HasGone maps before after old new
+  pub gone_still : {old new : CommitRequest} (before after : List Pair → Course A) → ((m : Map) → before (entries m) ≡ after (entries m)) → new ≡ old → HasOnlyRead maps before after old new
   gone_still before after same still = record { added = []; ran = ran_still still (λ m. ([], refl, same m)) }
 
   -- THEN: first so far, and then further
-  pub gone_then : {old mid new : CommitRequest} {before between after : List Pair → Course A} → HasGone maps before between old mid → HasGone maps between after mid new → HasGone maps before after old new
+  pub gone_then : {old mid new : CommitRequest} {before between after : List Pair → Course A} → HasOnlyRead maps before between old mid → HasOnlyRead maps between after mid new → HasOnlyRead maps before after old new
   gone_then one two = record {
     added = one.added ++ two.added;
     ran = ran_then one.ran two.ran (λ m (done, is, so) (more, has, goes). (
@@ -121,7 +114,7 @@ module _ {maps : ℕ → Map} {A : Type 0} where
   }
 
   -- GIVEN: behind these reads
-  pub gone_given : {old mid new : CommitRequest} {before between after : List Pair → Course A} (given : Option A) → HasGone maps before between old mid → HasGiven maps between given after mid new → HasGiven maps before given after old new
+  pub gone_given : {old mid new : CommitRequest} {before between after : List Pair → Course A} (given : Option A) → HasOnlyRead maps before between old mid → HasGiven maps between given after mid new → HasGiven maps before given after old new
   gone_given {before = before} {between = between} {after = after} given one two = record {
     added = one.added ++ two.added;
     ran = ran_then one.ran two.ran (λ m (done, is, so) (more, has, goes). (
@@ -136,7 +129,7 @@ module _ {maps : ℕ → Map} {A : Type 0} where
       by m done so more None (goes, ends) = (so ∙ ap (reads_then done) goes ∙ then_both done more [], ends)
 
   -- NOT GIVEN: behind these reads
-  pub gone_not : {refuses : KeyRange → ℕ → ReadError → Type 0} {old mid new : CommitRequest} {before between : List Pair → Course A} {e : ExecError} → HasGone maps before between old mid → HasNotGiven maps refuses between e mid new → HasNotGiven maps refuses before e old new
+  pub gone_not : {refuses : KeyRange → ℕ → ReadError → Type 0} {old mid new : CommitRequest} {before between : List Pair → Course A} {e : ExecError} → HasOnlyRead maps before between old mid → HasNotGiven maps refuses between e mid new → HasNotGiven maps refuses before e old new
   gone_not {refuses = refuses} {e = e} one two = record {
     added = one.added ++ two.added;
     ran = ran_then one.ran two.ran (λ m (done, is, so) (more, rest, has, goes, says). (
@@ -152,7 +145,7 @@ module _ {maps : ℕ → Map} {A : Type 0} where
   pub not_memory : {refuses : KeyRange → ℕ → ReadError → Type 0} {old new : CommitRequest} (course : List Pair → Course A) → new ≡ old → HasNotGiven maps refuses course exec_memory old new
   not_memory course same = record { added = []; ran = ran_still same (λ m. ([], course (entries m), refl, refl, tt)) }
 
-  pub gone_memory : {refuses : KeyRange → ℕ → ReadError → Type 0} {old new : CommitRequest} {before after : List Pair → Course A} → HasGone maps before after old new → HasNotGiven maps refuses before exec_memory old new
+  pub gone_memory : {refuses : KeyRange → ℕ → ReadError → Type 0} {old new : CommitRequest} {before after : List Pair → Course A} → HasOnlyRead maps before after old new → HasNotGiven maps refuses before exec_memory old new
   gone_memory {after = after} one = record { added = one.added; ran = ran_because one.ran (λ m (done, is, so). (done, after (entries m), is, so, tt)) }
 
   -- NOT GIVEN: the read of a range, with which the course begins, was refused, or memory was wanting for it
@@ -210,14 +203,14 @@ abbrev pub each_of : {A B : Type 0} → (List Pair → A → Course B) → (List
 each_of f course pairs = for_each (f pairs) (course pairs)
 
 module _ {maps : ℕ → Map} {A B : Type 0} (f : List Pair → A → Course B) where
-  pub gone_each : {old new : CommitRequest} {before after : List Pair → Course A} → HasGone maps before after old new → HasGone maps (each_of f before) (each_of f after) old new
+  pub gone_each : {old new : CommitRequest} {before after : List Pair → Course A} → HasOnlyRead maps before after old new → HasOnlyRead maps (each_of f before) (each_of f after) old new
   gone_each {after = after} one = record {
     added = one.added;
     ran = ran_because one.ran (λ m (done, is, so). (done, is, ap (for_each (f (entries m))) so ∙ each_then (f (entries m)) done (after (entries m))));
   }
 
   -- ONE was given: something happens for it, and then for each further one
-  pub each_some : {old new : CommitRequest} {before after : List Pair → Course A} (a : A) → HasGiven maps before (Some a) after old new → HasGone maps (each_of f before) (λ pairs. f pairs a ++ each_of f after pairs) old new
+  pub each_some : {old new : CommitRequest} {before after : List Pair → Course A} (a : A) → HasGiven maps before (Some a) after old new → HasOnlyRead maps (each_of f before) (λ pairs. f pairs a ++ each_of f after pairs) old new
   each_some {after = after} a one = record {
     added = one.added;
     ran = ran_because one.ran (λ m (done, is, so). (done, is, ap (for_each (f (entries m))) so ∙ each_then (f (entries m)) done (finds a ∷ after (entries m))));
@@ -321,7 +314,7 @@ module _ {maps : ℕ → Map} {A : Type 0} (keeps : A → Bool) {old new : Commi
   })
 
   -- one that isn't was passed over
-  pub kept_gone : keeps a ≡ false → HasGone maps (λ pairs. kept_course keeps (before pairs)) (λ pairs. kept_course keeps (after pairs)) old new
+  pub kept_gone : keeps a ≡ false → HasOnlyRead maps (λ pairs. kept_course keeps (before pairs)) (λ pairs. kept_course keeps (after pairs)) old new
   kept_gone not = gone_then (each_some (λ pairs a. cond (keeps a) (finds a ∷ []) []) a one)
       (gone_still (λ pairs. cond (keeps a) (finds a ∷ []) [] ++ kept_course keeps (after pairs)) (λ pairs. kept_course keeps (after pairs))
       (λ m. ap (λ b. cond b (finds a ∷ []) [] ++ kept_course keeps (after (entries m))) not) refl)

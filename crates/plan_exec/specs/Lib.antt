@@ -14,3 +14,4 @@ pub mod Levels
 pub mod Sources
 pub mod Rows
 pub mod Within
+pub mod Packing

@@ -39,6 +39,15 @@ pub record HasGiven {A : Type 0} (maps : ℕ → Map) (before : List Pair → Co
       (λ m. (done : List PlanRead) × (added ≡ ranges_added done)
       × GoesOn (before (entries m)) done given (after (entries m)))
 
+-- a stream went on by reads alone
+pub record HasOnlyRead {A : Type 0} (maps : ℕ → Map) (before after : List Pair → Course A) (old new : CommitRequest)
+    : Type 0 where
+  pub added : List KeyRange
+  pub ran :
+      DidRead maps added old new
+      (λ m. (done : List PlanRead) × (added ≡ ranges_added done)
+      × (before (entries m) ≡ reads_then done (after (entries m))))
+
 -- why a course stops where it is: memory runs out, the next read is refused so, or the pair with this key is damaged
 abbrev pub StopsHere : {A : Type 0} → (KeyRange → ReadError → Type 0) → Course A → ExecError → Type 0
 StopsHere refuses course Memory = Unit {0}

@@ -1,4 +1,4 @@
-// What the pairs of records stand for. Called by `readers` and `record_streams`.
+// What the pairs of records stand for. Called by `readers`, `record_streams` and `packing`.
 ghost use Rattle.std.specs.Prelude.{◌≡◌, ◌++◌, IfOk, MatchOption};
 ghost use Rattle.tuple_codec.specs.Subspace.{BeginsWith};
 ghost use Rattle.metadata.specs.Layout.{place_of_records};
@@ -13,7 +13,7 @@ use std::rc::Rc;
 
 // What stands after the front in a key.
 #[inline(always)]
-fn behind<'a>(front: &[u8], key: &'a [u8]) -> Option<&'a [u8]>
+pub(crate) fn behind<'a>(front: &[u8], key: &'a [u8]) -> Option<&'a [u8]>
     ensures { MatchOption result (BeginsWith front.now key.now → ⊥) (λ rest. key.now ≡ front.now ++ rest.now) }
 {
     key.strip_prefix(front)

@@ -1,6 +1,6 @@
 // Which pairs of an index's entries are of the written form. An entry is told by its bytes: its
-// cells are looked at one after another, and none is kept. Called by `readers` and
-// `record_streams`.
+// cells are looked at one after another, and none is kept. Called by `readers`, `record_streams`
+// and `packing`.
 ghost use Rattle.std.specs.Prelude.{◌≡◌, ◌<◌, ◌^◌, ◌&&◌, ◌++◌, List, ℕ, IfOk, IsTrue};
 ghost use Rattle.std.specs.Prelude.{MatchOption, None, drop, not, pos};
 ghost use Rattle.std.specs.List.{list_any};
@@ -66,7 +66,7 @@ pub(crate) fn entry_form(
 }
 
 // What stands after the packs of cells of these kinds, null or not. None where others stand there.
-fn after_columns<'a>(
+pub(crate) fn after_columns<'a>(
     alloc: Global,
     kinds: &[Kind],
     bytes: &'a [u8],
@@ -89,7 +89,7 @@ const BEYOND_CELLS: u64 = 1 << 63;
 
 // What stands after the pack of a type's number, where that is a cell's.
 #[inline(always)]
-fn after_number(number: u64, bytes: &[u8]) -> Option<&[u8]>
+pub(crate) fn after_number(number: u64, bytes: &[u8]) -> Option<&[u8]>
     ensures told { MatchOption result
         ((rest : List ℕ) → BeginsWithCell (Int (pos number)) rest bytes.now → ⊥)
         (λ rest. BeginsWithCell (Int (pos number)) rest.now bytes.now) }

@@ -1,5 +1,5 @@
 //! The calls that execute a plan. Called by `schedule` and applications.
-ghost use Rattle.std.specs.Prelude.{◌≡◌, ◌⊎◌, IfOk, IfErr, List};
+ghost use Rattle.std.specs.Prelude.{◌≡◌, ◌⊎◌, IfOk, IfErr, List, map};
 ghost use Rattle.metadata.specs.Record.{Record as RecordValue};
 ghost use Rattle.plan_exec.specs.Errors.{exec_memory};
 ghost use Rattle.plan_exec.specs.Executing.{IsExecuted, IsExecutionRefused, IsGivenBefore};
@@ -10,13 +10,16 @@ use crate::error::ExecError;
 use crate::opening::rows_of;
 use crate::readers::RecordsOf;
 use metadata::Record;
+use packed_rows::Rows;
 use planner::Plan;
 use record_store::{Records, Store};
 use std::alloc::AllocError;
 use txn::{Snapshot, Transaction};
 
-// Room for so many rows is made at first.
+// Room for so many rows is made at first, and for so many bytes of theirs.
 const ROWS_ROOM: usize = 16;
+
+const BYTES_ROOM: usize = 32 * ROWS_ROOM;
 
 /// The rows of a plan over an open store, as the transaction sees it: all of them, or none.
 ///
@@ -57,6 +60,33 @@ pub fn execute<S: Snapshot>(
         found.push(row)?;
     }
     Ok(Records::new(found))
+}
+
+/// The cells of the rows that `execute` answers, in the same order, each row as the pack of its
+/// cells: so a row takes no list of its own. What is read is as with `execute`.
+///
+/// # Errors
+///
+/// As with `execute`.
+pub fn execute_rows<S: Snapshot>(
+    plan: &Plan,
+    store: &Store,
+    tx: &mut Transaction,
+    db: &S,
+) -> Result<Rows, ExecError>
+    ensures executed { IfOk result (λ rows. (records : List RecordValue)
+        × (rows ≡ map (λ r. r.cells) records)
+        × IsExecuted (S.map_at db.now) store.now plan.now records tx.old tx.new) }
+    ensures refused { IfErr result (λ error.
+        IsExecutionRefused (S.map_at db.now) (S.may_refuse db.now) store.now plan.now error tx.old
+        tx.new) }
+{
+    plan.query();
+    let records = RecordsOf::new(store, accepted_type(store, plan)?)?;
+    let mut found = Rows::with_capacity(store.alloc(), ROWS_ROOM, BYTES_ROOM)?;
+    let mut rows = rows_of(&records, plan.root())?;
+    while rows.next_packed(tx, db, &mut found)? {}
+    Ok(found)
 }
 
 /// Hands the rows of a plan over an open store, as the transaction sees it, to a closure, one by

@@ -18,6 +18,7 @@ mod keys;
 mod laws;
 mod level;
 mod opening;
+mod packing;
 mod planning;
 mod readers;
 mod record_streams;
@@ -26,7 +27,7 @@ mod selecting;
 mod streams;
 
 pub use error::ExecError;
-pub use execution::{execute, execute_each};
+pub use execution::{execute, execute_each, execute_rows};
 pub use laws::{
     plans_answer, plans_read_their_scans, states_are_told, stores_are_exact, usable_are_scannable,
 };

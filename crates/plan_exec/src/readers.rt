@@ -4,24 +4,28 @@ ghost use Rattle.std.specs.Prelude.{◌≡◌, ◌++◌, List, ℕ, IfOk, IsTrue
 ghost use Rattle.kv_core.specs.Bytes.{end_of_keys, key_lt};
 ghost use Rattle.record_store.specs.Layout.{place};
 ghost use Rattle.metadata.specs.Layout.{entries_prefix, place_of_records};
+ghost use Rattle.metadata.specs.Schema.{field_kinds};
 ghost use Rattle.plan_exec.specs.Decoding.{IsFormOf};
 
 use crate::decoding::shared;
 use crate::entries::entry_form;
 use crate::entry::EntryForm;
 use crate::keys::records_place;
-use metadata::{IndexDefinition, TypeDefinition};
+use metadata::{IndexDefinition, Kind, TypeDefinition};
 use record_store::Store;
 use std::alloc::AllocError;
 use std::rc::Rc;
 
-/// The records of a type: what their keys begin with, and the definition that they share.
+/// The records of a type: what their keys begin with, the definition that they share, and the kinds
+/// of its fields.
 #[derive(Drop)]
 pub(crate) struct RecordsOf<'a> {
     pub(crate) store: &'a Store,
     pub(crate) front: Vec<u8>,
     pub(crate) definition: Rc<TypeDefinition>,
+    pub(crate) kinds: Vec<Kind>,
     ghost fronted: { front.items ≡ place store.now.prefix place_of_records },
+    ghost typed: { kinds.items ≡ field_kinds definition.value },
 }
 
 impl<'a> RecordsOf<'a> {
@@ -34,11 +38,13 @@ impl<'a> RecordsOf<'a> {
         ensures typed { IfOk result (λ records. records.definition.value ≡ definition.now) }
     {
         let front = records_place(store)?;
+        let kinds = definition.field_kinds(store.alloc())?;
         let definition = shared(store.alloc(), definition)?;
         Ok(RecordsOf {
             store,
             front,
             definition,
+            kinds,
         })
     }
 }

@@ -2,17 +2,20 @@
 ghost use Rattle.std.specs.Prelude.{◌≡◌, IfErr, IfOk, Some};
 ghost use Rattle.planner.specs.Layout.{stored_record};
 ghost use Rattle.plan_exec.specs.Decoding.{IsDamage};
+ghost use Rattle.plan_exec.specs.Packing.{HasPacked};
 ghost use Rattle.plan_exec.specs.Reads.{or_damaged, stored_entry};
-ghost use Rattle.plan_exec.specs.Streams.{entries_made, pair_course, records_made};
+ghost use Rattle.plan_exec.specs.Streams.{HasNotGiven, entries_made, pair_course, records_made};
 
 use crate::decoding::record_in;
 use crate::entries::entry_in;
 use crate::entry::Entry;
 use crate::error::ExecError;
+use crate::packing::push_record;
 use crate::readers::{EntriesOf, RecordsOf};
 use crate::streams::{PairStream, Stream};
 use kv_core::Pair;
 use metadata::Record;
+use packed_rows::Rows;
 use txn::{Snapshot, Transaction};
 
 // What a pair stands for: where that is nothing the pair is damaged.
@@ -93,6 +96,34 @@ impl Stream for EntryStream<'_> {
 pub(crate) struct RecordStream<'a> {
     pub(crate) pairs: PairStream,
     pub(crate) records: &'a RecordsOf<'a>,
+}
+
+impl RecordStream<'_> {
+    /// Adds the cells of the next record to those that were given, and tells whether there was one.
+    pub(crate) fn next_packed<S: Snapshot>(
+        &mut self,
+        tx: &mut Transaction,
+        db: &S,
+        given: &mut Rows,
+    ) -> Result<bool, ExecError>
+        ensures packed { IfOk result (λ more. HasPacked (S.map_at db.now)
+            (λ pairs. records_made self.old.records.now (pair_course self.old.pairs pairs))
+            given.old more given.new
+            (λ pairs. records_made self.new.records.now (pair_course self.new.pairs pairs))
+            tx.old tx.new) }
+        ensures stopped { IfErr result (λ error. HasNotGiven (S.map_at db.now)
+            (S.may_refuse db.now)
+            (λ pairs. records_made self.old.records.now (pair_course self.old.pairs pairs)) error
+            tx.old tx.new) }
+    {
+        match self.pairs.next_place(tx, db)? {
+            Some(place) => {
+                push_record(self.records, &self.pairs.batch[place], given)?;
+                Ok(true)
+            }
+            None => Ok(false),
+        }
+    }
 }
 
 // Each pair is decoded once it is given.

@@ -3,6 +3,7 @@ ghost use Rattle.std.specs.Prelude.{◌≡◌, ◌∷◌, [], IfErr, IfOk, OnOk,
 ghost use Rattle.planner.specs.Layout.{primary_cells};
 ghost use Rattle.query.specs.View.{filter_of};
 ghost use Rattle.plan_exec.specs.Levels.{TakesNext, head_then, merged_levels};
+ghost use Rattle.plan_exec.specs.Packing.{HasPacked};
 ghost use Rattle.plan_exec.specs.Rows.{chained_levels, first_rows, kept_rows, level_of, new_level};
 ghost use Rattle.plan_exec.specs.Rows.{step_course, weights};
 ghost use Rattle.plan_exec.specs.Streams.{HasGiven, HasNotGiven};
@@ -15,6 +16,7 @@ use crate::record_streams::RecordStream;
 use crate::selecting::selects;
 use crate::streams::Stream;
 use metadata::Record;
+use packed_rows::Rows as PackedRows;
 use query::Filter;
 use std::cmp::Ordering;
 use txn::{Snapshot, Transaction};
@@ -75,6 +77,52 @@ impl<'a> Rows<'a> {
             Step::Scanned(records) => records.next(tx, db),
             Step::Fetched(records) => records.next(tx, db),
             step => next_row(step, self.parts.as_mut_slice(), tx, db),
+        }
+    }
+}
+
+impl Rows<'_> {
+    /// Adds the cells of the next row to those that were given, and tells whether there was one.
+    /// After an error nothing more is to be asked.
+    pub(crate) fn next_packed<S: Snapshot>(
+        &mut self,
+        tx: &mut Transaction,
+        db: &S,
+        given: &mut PackedRows,
+    ) -> Result<bool, ExecError>
+        ensures packed { IfOk result (λ more. HasPacked (S.map_at db.now)
+            (level_of self.old).stream given.old more given.new (level_of self.new).stream tx.old
+            tx.new) }
+        ensures stopped { IfErr result (λ error. HasNotGiven (S.map_at db.now) (S.may_refuse db.now)
+            (level_of self.old).stream error tx.old tx.new) }
+    {
+        match &mut self.step {
+            Step::Scanned(records) => return records.next_packed(tx, db, given),
+            Step::Fetched(records) => return records.next_packed(tx, db, given),
+            _ => {}
+        }
+        self.next_pushed(tx, db, given)
+    }
+
+    // The same, where the next row is made before its cells are added.
+    fn next_pushed<S: Snapshot>(
+        &mut self,
+        tx: &mut Transaction,
+        db: &S,
+        given: &mut PackedRows,
+    ) -> Result<bool, ExecError>
+        ensures packed { IfOk result (λ more. HasPacked (S.map_at db.now)
+            (level_of self.old).stream given.old more given.new (level_of self.new).stream tx.old
+            tx.new) }
+        ensures stopped { IfErr result (λ error. HasNotGiven (S.map_at db.now) (S.may_refuse db.now)
+            (level_of self.old).stream error tx.old tx.new) }
+    {
+        match self.next(tx, db)? {
+            Some(row) => {
+                given.push(row.cells())?;
+                Ok(true)
+            }
+            None => Ok(false),
         }
     }
 }

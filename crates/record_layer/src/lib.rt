@@ -28,6 +28,7 @@ pub use making::{IndexOf, SchemaMaker, fields, name, names, record_with};
 pub use metadata::{Cell, Cells, Fields, IndexKind, Kind, MetadataError, Names, Record, Schema};
 pub use not_done::NotDone;
 pub use opening::{FolderLog, OpenAtError, open_at};
+pub use packed_rows::Rows;
 pub use places::{Place, place_of};
 pub use plan_exec::{ExecError, execute, execute_each, plan_for_store};
 pub use planner::{Plan, PlanError};

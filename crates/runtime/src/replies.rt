@@ -13,7 +13,8 @@ use crate::answers::CommandError;
 use crate::published_reads::EnterError;
 use kv_core::KeyRange as BuiltRange;
 use metadata::Cells;
-use schedule::{Reply, Rows, SharedPlan};
+use packed_rows::Rows;
+use schedule::{Reply, SharedPlan};
 
 /// Whether the reply accepts its command.
 pub(crate) fn is_accepted(reply: &Reply) -> bool

@@ -17,8 +17,9 @@ use crate::locked_state::End;
 use crate::published_reads::EnterError;
 use crate::replies::{accepted, found, planned, removed, rows, saved, total};
 use metadata::Cells;
+use packed_rows::Rows;
 use record_store::StoreNumber;
-use schedule::{AskedQuery, Command, Reply, Rows, SharedPlan};
+use schedule::{AskedQuery, Command, Reply, SharedPlan};
 use std::sync::Wait;
 use tuple_codec::Text;
 

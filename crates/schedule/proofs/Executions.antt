@@ -8,7 +8,7 @@ use Rattle.kv_core.specs.Range.{KeyRange}
 use Rattle.kv_core.specs.Map.{Map}
 use Rattle.kv_core.specs.declared.change.CommitRequest.{CommitRequest}
 use Rattle.kv_core.specs.declared.snapshot.ReadError.{ReadError}
-use Rattle.txn.proofs.Running.{ran_because, ran_then}
+use Rattle.txn.proofs.Running.{ran_then}
 use Rattle.metadata.specs.declared.definition.TypeDefinition.{TypeDefinition}
 use Rattle.metadata.specs.Record.{Record}
 use Rattle.metadata.specs.Records.{of_type}
@@ -24,7 +24,7 @@ use Rattle.record_store.specs.Opening.{AtSerials, HasSchema, IsOpened, IsThereAs
 use Rattle.record_store.specs.Steps.{IsBeginning, IsNextRefused}
 use Rattle.record_store.specs.Store.{Serial, Store, listed_states}
 use Rattle.record_store.specs.Layout.{store_prefix}
-use Rattle.record_store.proofs.Stopping.{all_begin, begin_behind}
+use Rattle.record_store.proofs.Stopping.{begin_behind}
 use Rattle.query.specs.Query.{Allows}
 use Rattle.query.specs.View.{query_of}
 use Rattle.planner.specs.Asked.{AskedPlan}
@@ -32,7 +32,7 @@ use Rattle.planner.specs.Plan.{Plan}
 use Rattle.planner.specs.Right.{indexes_of}
 use Rattle.planner.specs.View.{plan_of}
 use Rattle.plan_exec.specs.Accepting.{Accepts, HasType, IsNotAccepted, IsReadableAt, extends, may_read}
-use Rattle.plan_exec.specs.Executing.{HasNoRows, HasRows, IsExecuted, IsUnexecuted, asks_of, damage_of, reads_of}
+use Rattle.plan_exec.specs.Executing.{HasNoRows, HasRows, IsExecuted, asks_of, damage_of, reads_of}
 use Rattle.plan_exec.specs.declared.error.ExecError.{ExecError}
 use Rattle.plan_exec.specs.declared.error.ExecError.TheVariants as execution
 use Rattle.plan_exec.proofs.Accepted.{all_readable, extends-Decides, found_name}
@@ -177,15 +177,6 @@ unexecuted_at number {maps = maps} {refuses = refuses} {old = old} {mid = mid} {
     by_error fault.NotReadable is = absurd is
     by_error fault.WrongState is = absurd is
     by_error fault.NotBuilt is = absurd is
-
--- MEMORY was wanting once a plan was executed
-pub executed_memory : {maps : ℕ → Map} {refuses : KeyRange → ℕ → ReadError → Type 0} {opened : Opened} {plan : AskedPlan} {rows : List Record} {old new : CommitRequest} → IsExecuted maps opened plan rows old new → IsUnexecuted maps refuses opened plan execution.Memory old new
-executed_memory is = record {
-  type = is.type;
-  accepted = is.accepted;
-  added = is.added;
-  ran = ran_because is.ran (λ m fact. record { stopped = subst (IsBeginning is.added) fact.reads (all_begin is.added); damage = tt });
-}
 
 -- ---- the same where the opened store stands at the store's prefix
 

@@ -1,5 +1,5 @@
 //! The commands that execute plans: that of a query, and one that is given. Called by `performing`.
-ghost use Rattle.std.specs.Prelude.{◌≡◌, IfOk, IfErr, map};
+ghost use Rattle.std.specs.Prelude.{IfOk, IfErr};
 ghost use Rattle.schedule.specs.declared.step.Command.{Command};
 ghost use Rattle.schedule.specs.Calls.{IsCommandRefused};
 ghost use Rattle.schedule.specs.Executions.{IsExecution, IsNoExecution, IsQueried, IsUnqueried};
@@ -10,28 +10,17 @@ use crate::asked_query::AskedQuery;
 use crate::commands::open;
 use crate::known::Known;
 use crate::refusal::Refusal;
-use crate::reply::{Reply, Rows};
+use crate::reply::Reply;
 use crate::shared_plan::SharedPlan;
-use metadata::Record;
-use plan_exec::{ExecError, plan_for_store};
+use plan_exec::{ExecError, execute_rows, plan_for_store};
 use planner::{Plan, PlanError};
 use query::Query;
-use record_store::{Records, Store, StoreError, StoreNumber};
-use std::alloc::{AllocError, Global};
+use record_store::{Store, StoreError, StoreNumber};
+use std::alloc::Global;
 use txn::{Snapshot, Transaction};
-
-/// The rows that records are.
-fn rows_of(alloc: Global, records: Records) -> Result<Rows, AllocError>
-    ensures { IfOk result (λ rows. rows ≡ map (λ r. r.cells) records) }
-{
-    let found = records.into_vec();
-    let rows = found.into_iter().map(Record::into_cells).collect(alloc)?;
-    Ok(Rows::new(rows))
-}
 
 /// The rows of a plan over an open store, or why the store doesn't accept it.
 fn execution<S: Snapshot>(
-    alloc: Global,
     store: &Store,
     tx: &mut Transaction,
     db: &S,
@@ -42,11 +31,8 @@ fn execution<S: Snapshot>(
     ensures refused { IfErr result (λ error.
         IsNoExecution (S.map_at db.now) (S.may_refuse db.now) store.now plan.now error tx.old tx.new) }
 {
-    match plan_exec::execute(plan, store, tx, db) {
-        Ok(records) => {
-            let rows = rows_of(alloc, records)?;
-            Ok(Reply::Rows(rows))
-        }
+    match execute_rows(plan, store, tx, db) {
+        Ok(rows) => Ok(Reply::Rows(rows)),
         Err(ExecError::OtherSchema) => Ok(Reply::Refused(Refusal::OtherSchema)),
         Err(ExecError::IndexNotReadable) => Ok(Reply::Refused(Refusal::IndexNotReadable)),
         Err(ExecError::Read(error)) => Err(StoreError::Read(error)),
@@ -77,7 +63,7 @@ pub(crate) fn execute<S: Snapshot>(
     let plan = plan.plan();
     plan.query();
     let store = open(alloc, number, tx, db, known)?;
-    let reply = execution(alloc, &store, tx, db, plan)?;
+    let reply = execution(&store, tx, db, plan)?;
     known.store = Some(store);
     Ok(reply)
 }
@@ -100,7 +86,7 @@ fn query_reply<S: Snapshot>(
     }
     match plan_for_store(alloc, store, query) {
         Ok(plan) => {
-            let reply = execution(alloc, store, tx, db, &plan)?;
+            let reply = execution(store, tx, db, &plan)?;
             Ok(reply)
         }
         Err(PlanError::SortNotServed) => Ok(Reply::Refused(Refusal::SortNotServed)),

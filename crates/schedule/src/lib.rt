@@ -38,7 +38,7 @@ use cluster_core::Config;
 pub use known::Known;
 pub use performing::{perform, perform_knowing, perform_open};
 pub use refusal::Refusal;
-pub use reply::{Reply, Report, Reports, Rows};
+pub use reply::{Reply, Report, Reports};
 use running::start;
 pub use shared_plan::SharedPlan;
 use starting::laws_of;

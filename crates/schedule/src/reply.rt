@@ -6,45 +6,8 @@ use crate::refusal::Refusal;
 use crate::shared_plan::SharedPlan;
 use kv_core::{Bytes, KeyRange};
 use metadata::{Cells, State};
+use packed_rows::Rows;
 use std::marker::Model;
-
-/// The cells of records, in order.
-pub struct Rows {
-    rows: Vec<Cells>,
-}
-
-// Written out, so that no proof of a caller has to take its parts apart where one is dropped.
-impl Drop for Rows {
-    fn drop(self) {
-        let Rows { rows } = self;
-        drop(rows);
-    }
-}
-
-impl Model for Rows {
-    ghost use Rattle.std.specs.Prelude.{List};
-    ghost use Rattle.metadata.specs.declared.cells.Cell.{Cell};
-
-    ghost Value = { List (List Cell) };
-
-    ghost view = { λ r. r.rows.items };
-}
-
-impl Rows {
-    /// The list of these rows.
-    pub fn new(rows: Vec<Cells>) -> Rows
-        ensures { result ≡ rows.items }
-    {
-        Rows { rows }
-    }
-
-    /// The rows.
-    pub fn as_slice(&self) -> &[Cells]
-        ensures { result.now ≡ self.now }
-    {
-        self.rows.as_slice()
-    }
-}
 
 /// What is told of a submitted transaction.
 #[derive(Drop)]

@@ -11,5 +11,5 @@ mod step_json;
 
 pub use error::ScriptError;
 pub use print::{make_line, push_reply, push_report};
-pub use race::{Race, Racers, race_of};
+pub use race::{Race, RaceRows, Racers, race_of};
 pub use script::{Script, script_of, script_with};

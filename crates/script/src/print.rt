@@ -4,7 +4,8 @@ use explain::explain;
 use json_forms::{cells_text, rows_text};
 use kv_core::{Bytes, KeyRange};
 use metadata::{Cells, State};
-use schedule::{Reply, Report, Rows, SharedPlan};
+use packed_rows::Rows;
+use schedule::{Reply, Report, SharedPlan};
 use std::alloc::{AllocError, Global};
 use std::fmt::Write;
 
@@ -22,7 +23,7 @@ fn push_cells(
 }
 
 fn push_rows(alloc: Global, line: &mut String, rows: &Rows) -> Result<(), AllocError> {
-    let text = rows_text(alloc, rows.as_slice())?;
+    let text = rows_text(alloc, rows)?;
     line.push_str("rows ")?;
     line.push_str(text.as_str())
 }

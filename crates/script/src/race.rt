@@ -11,19 +11,50 @@ use cluster_core::Config;
 use json_forms::{
     PartError, cells_of, has_only, index_of, list_of, member, schema_of, text_of, value_of,
 };
-use metadata::{IndexRequest, SchemaRequest};
-use schedule::Rows;
+use metadata::{Cells, IndexRequest, SchemaRequest};
 use serde_json::Value;
 use std::alloc::Global;
+use std::marker::Model;
 use tuple_codec::Text;
+
+/// The cells of a race's records, in order.
+pub struct RaceRows {
+    rows: Vec<Cells>,
+}
+
+// Written out, so that no proof of a caller has to take its parts apart where one is dropped.
+impl Drop for RaceRows {
+    fn drop(self) {
+        let RaceRows { rows } = self;
+        drop(rows);
+    }
+}
+
+impl Model for RaceRows {
+    ghost use Rattle.std.specs.Prelude.{List};
+    ghost use Rattle.metadata.specs.declared.cells.Cell.{Cell};
+
+    ghost Value = { List (List Cell) };
+
+    ghost view = { λ r. r.rows.items };
+}
+
+impl RaceRows {
+    /// The rows.
+    pub fn as_slice(&self) -> &[Cells]
+        ensures { result.now ≡ self.now }
+    {
+        self.rows.as_slice()
+    }
+}
 
 /// The records that two clients save, the first client's and the second's.
 #[derive(Drop)]
 pub struct Racers {
     /// The cells of the first client's records, in order.
-    pub first: Rows,
+    pub first: RaceRows,
     /// The cells of the second client's records, in order.
-    pub second: Rows,
+    pub second: RaceRows,
 }
 
 /// A race: two clients save records of one type while an index is built.
@@ -36,7 +67,7 @@ pub struct Race {
     /// The type of all records.
     pub record_type: Text,
     /// The cells of the records that are there before the race, in order.
-    pub before: Rows,
+    pub before: RaceRows,
     /// The index that is built.
     pub index: IndexRequest,
     /// How many records are built at a time, at most.
@@ -51,7 +82,7 @@ const RACE_KEYS: [&str; 7] = [
 ];
 
 // The rows that a list of lists of cells stands for.
-fn rows_of(alloc: Global, value: &Value) -> Result<Rows, PartError>
+fn rows_of(alloc: Global, value: &Value) -> Result<RaceRows, PartError>
     ensures ok { IfOk result (λ rows. rows_in (view value.now) ≡ Some rows) }
     ensures err { IfErr result (λ error. error ≡ PartError.BadForm → rows_in (view value.now) ≡ None) }
 {
@@ -59,7 +90,7 @@ fn rows_of(alloc: Global, value: &Value) -> Result<Rows, PartError>
     for item in list_of(value)? {
         rows.push(cells_of(alloc, item)?)?;
     }
-    Ok(Rows::new(rows))
+    Ok(RaceRows { rows })
 }
 
 // A limit of a builder, 1 at least.

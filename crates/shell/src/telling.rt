@@ -4,9 +4,10 @@ use crate::refusals::refusal_words;
 use crate::stores::Stores;
 use cluster_core::Cluster;
 use json_forms::cells_text;
-use metadata::{Cells, State};
+use metadata::State;
+use packed_rows::Rows;
 use record_store::StoreNumber;
-use schedule::{Command, Reply, Report, Rows, Step};
+use schedule::{Command, Reply, Report, Step};
 use script::push_reply;
 use shell_text::{fields_of, push_table, range_named, range_words};
 use std::alloc::{AllocError, Global};
@@ -49,10 +50,12 @@ pub struct Telling {
 }
 
 // Writes rows, each on a line of its own.
-fn push_json_rows(alloc: Global, lines: &mut String, rows: &[Cells]) -> Result<(), AllocError> {
-    for row in rows {
-        lines.push_str(cells_text(alloc, row)?.as_str())?;
-        lines.push_str("\n")?;
+fn push_json_rows(alloc: Global, lines: &mut String, rows: &Rows) -> Result<(), AllocError> {
+    for place in 0..rows.len() {
+        if let Some(cells) = rows.cells_at(alloc, place)? {
+            lines.push_str(cells_text(alloc, &cells)?.as_str())?;
+            lines.push_str("\n")?;
+        }
     }
     Ok(())
 }
@@ -105,10 +108,10 @@ fn push_rows(
             push_reply(alloc, lines, reply)?;
             lines.push_str("\n")
         }
-        RowForm::Json => push_json_rows(alloc, lines, rows.as_slice()),
+        RowForm::Json => push_json_rows(alloc, lines, rows),
         RowForm::Table => {
             let heads = heads_of(alloc, stores, cluster, step)?;
-            push_table(alloc, lines, heads.as_slice(), rows.as_slice())
+            push_table(alloc, lines, heads.as_slice(), rows)
         }
     }
 }

@@ -1,6 +1,7 @@
 // Rows as a table. Called by `shell`.
 use json_forms::cell_text;
 use metadata::Cells;
+use packed_rows::Rows;
 use std::alloc::{AllocError, Global};
 use std::fmt::Write;
 use unicode_width::UnicodeWidthStr;
@@ -53,14 +54,16 @@ pub fn push_table(
     alloc: Global,
     lines: &mut String,
     heads: &[String],
-    rows: &[Cells],
+    rows: &Rows,
 ) -> Result<(), AllocError> {
     let mut widths = Vec::new(alloc);
     let mut texts = Vec::new(alloc);
-    for row in rows {
-        let cells = texts_of(alloc, row)?;
-        widen(&mut widths, cells.as_slice())?;
-        texts.push(cells)?;
+    for place in 0..rows.len() {
+        if let Some(row) = rows.cells_at(alloc, place)? {
+            let cells = texts_of(alloc, &row)?;
+            widen(&mut widths, cells.as_slice())?;
+            texts.push(cells)?;
+        }
     }
     if heads.len() == widths.len() {
         widen(&mut widths, heads)?;

@@ -3,6 +3,7 @@
 use json_forms::rows_text;
 use kv_core::{Bytes, CommitRequest, KvMap, WriteError};
 use metadata::{Cells, Record, Schema};
+use packed_rows::Rows;
 use record_store::{Records as Found, Store, StoreError, StoreNumber};
 use schedule::{Command, Reply, Step as Scripted, perform};
 use script::{make_line, script_of};
@@ -188,7 +189,11 @@ fn have_cells(alloc: Global, records: Found, told: &str) -> Result<(), Fail> {
 
 /// Rows have this text.
 pub(crate) fn have_text(alloc: Global, rows: &[Cells], told: &str) -> Result<(), Fail> {
-    let found = rows_text(alloc, rows)?;
+    let mut packed = Rows::new(alloc);
+    for cells in rows {
+        packed.push(cells)?;
+    }
+    let found = rows_text(alloc, &packed)?;
     same(found.as_str(), told)
 }
 

@@ -5,10 +5,16 @@ use Rattle.txn.proofs.Exits.{exit_with}
 use Rattle.plan_exec.specs.Errors.{exec_memory}
 use Rattle.plan_exec.specs.Executing.{IsExecuted}
 use Rattle.plan_exec.specs.Rows.{level_of}
-use Rattle.plan_exec.proofs.Executed.{executed, opened_course, refused}
+use Rattle.plan_exec.proofs.Executed.{executed, opened_course, refused, refused_first}
 use Rattle.plan_exec.proofs.Streaming.{given_fewer, not_memory}
 use Rattle.plan_exec.proofs.Taken.{HasTaken, taken_all, taken_more, taken_none, taken_stopped}
 use Rattle.plan_exec.proofs.execution.execute.Goals as goal
+
+pub returns-in_err-rows-clause-refused : goal.returns-in_err-rows-clause-refused
+returns-in_err-rows-clause-refused g c =
+    exit_with c.from_residual-in_err-rows.result exec_memory _ c.from_residual-in_err-rows.ensures
+    (refused_first c.args.store.now c.args.plan.now c.in_ok-accepted_type.field-0.now c.in_ok-accepted_type.ensures.accepted c.query.ensures.over (rw c.query.ensures.query at c.query.ensures.right) c.query.ensures.merges
+    (g.S.Snapshot.map_at c.args.db.now) (g.S.Snapshot.may_refuse c.args.db.now) c.args.tx.now)
 
 pub loop-rows-init : goal.loop-rows-init
 loop-rows-init g c =

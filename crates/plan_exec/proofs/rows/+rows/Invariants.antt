@@ -1,7 +1,8 @@
 use Rattle.std.proofs.Common.{◌≡◌, ◌+◌, ◌*◌, [], ◌∷◌, map}
 use Rattle.query.specs.View.{filter_of}
 use Rattle.plan_exec.specs.Rows.{chained_levels, first_rows, kept_rows, level_of, weights}
-use Rattle.plan_exec.proofs.Streaming.{HasGone, count_left}
+use Rattle.plan_exec.specs.Streams.{HasOnlyRead}
+use Rattle.plan_exec.proofs.Streaming.{count_left}
 use Rattle.plan_exec.proofs.rows.+rows.Given as goal
 
 -- the parts of a step weigh less than its rows, and of the functions for a step's parts each calls one that goes on with
@@ -28,7 +29,7 @@ decreases-next_merged g l = 4 * weights l.parts.now + 1
 abbrev pub invariant-next_kept-loop-row : goal.invariant-next_kept-loop-row
 invariant-next_kept-loop-row g l =
     (weights l.parts ≡ weights l.fn.parts)
-    × HasGone (g.S.Snapshot.map_at l.db) (kept_rows (filter_of l.fn.condition) (map level_of l.fn.parts)) (kept_rows (filter_of l.condition) (map level_of l.parts)) l.fn.tx l.tx
+    × HasOnlyRead (g.S.Snapshot.map_at l.db) (kept_rows (filter_of l.fn.condition) (map level_of l.fn.parts)) (kept_rows (filter_of l.condition) (map level_of l.parts)) l.fn.tx l.tx
 
 abbrev pub decreases-next_kept-loop-row : goal.decreases-next_kept-loop-row
 decreases-next_kept-loop-row g l = count_left (g.S.Snapshot.map_at l.db) (chained_levels (map level_of l.parts)) l.tx
@@ -36,7 +37,7 @@ decreases-next_kept-loop-row g l = count_left (g.S.Snapshot.map_at l.db) (chaine
 abbrev pub invariant-next_first-loop-row : goal.invariant-next_first-loop-row
 invariant-next_first-loop-row g l =
     (weights l.parts ≡ weights l.fn.parts)
-    × HasGone (g.S.Snapshot.map_at l.db) (first_rows l.fn.seen (map level_of l.fn.parts)) (first_rows l.seen (map level_of l.parts)) l.fn.tx l.tx
+    × HasOnlyRead (g.S.Snapshot.map_at l.db) (first_rows l.fn.seen (map level_of l.fn.parts)) (first_rows l.seen (map level_of l.parts)) l.fn.tx l.tx
 
 abbrev pub decreases-next_first-loop-row : goal.decreases-next_first-loop-row
 decreases-next_first-loop-row g l = count_left (g.S.Snapshot.map_at l.db) (chained_levels (map level_of l.parts)) l.tx
